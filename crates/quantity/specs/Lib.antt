@@ -1,0 +1,6 @@
+-- Document 01, "Source streams" and the weights of "Attribution", in the paper's order.
+pub mod Rounding
+pub mod Streams
+pub mod Standard
+pub mod Weights
+pub mod Examples
