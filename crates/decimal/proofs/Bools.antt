@@ -1,0 +1,16 @@
+-- Laws of tests. Assumes nothing.
+use mathlib.Core.Path.{_≡_, refl, sym}
+use mathlib.Core.Bool.{Bool, true, false, _&&_, _||_}
+use Prim.Native.Nat.{ℕ}
+use native.Mathlib.Omega.{arith}
+
+pub never : _≡_ {A = Bool} false true → ⊥
+never e = let z : _≡_ {A = ℕ} 0 1 = cc in omega arith
+
+pub and-both : (a b : Bool) → (a && b) ≡ true → (a ≡ true) × (b ≡ true)
+and-both true b h = (refl, h)
+and-both false b h = absurd (never h)
+
+pub or-neither : (a b : Bool) → (a || b) ≡ false → (a ≡ false) × (b ≡ false)
+or-neither true b h = absurd (never (sym h))
+or-neither false b h = (refl, h)

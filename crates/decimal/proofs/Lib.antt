@@ -1,0 +1,4 @@
+-- Laws that the crates above cite.
+pub mod Bools
+pub mod Spelling
+pub mod OneSpelling
