@@ -28,6 +28,11 @@ totalKilos (t ∷ ts) = t .kilos + totalKilos ts
 abbrev pub kilosOfFirst : (k : ℕ) → List Taker → ℕ
 kilosOfFirst k ts = totalKilos (take k ts)
 
+-- the k-th taker, the first being 1
+abbrev pub takerAt : List Taker → (k : ℕ) → Taker
+takerAt ts zero = taker 0 0
+takerAt ts (suc k) = getD ts k (taker 0 0)
+
 -- pool P of output A
 module _ (pool output : ℕ) (ts : List Taker) where
   -- the k-th portion is ⌊P × C(k)/A⌋ − ⌊P × C(k−1)/A⌋
@@ -41,24 +46,26 @@ module _ (pool output : ℕ) (ts : List Taker) where
 
   -- the portion of process j: that of the place where it stands among the takers
   unfoldable pub portionOf : (j : ℕ) → ℕ
-  portionOf j = sumTo (length ts) (λ k. onlyAt j (getD ts (k - 1) (taker 0 0) .process) (portion k))
+  portionOf j = sumTo (length ts) (λ k. onlyAt j (takerAt ts k .process) (portion k))
 
--- ---- the pools of a works of n processes: `kilos i j` pass from i to j, and `own k` is the attribution and the bought grams of k
-module _ (n : ℕ) (output : ℕ → ℕ) (kilos : ℕ → ℕ → ℕ) (own : ℕ → ℕ) where
+-- ---- the pools of a works of n processes: `kilos i j` pass from i to j
+module _ (n : ℕ) (output : ℕ → ℕ) (kilos : ℕ → ℕ → ℕ) where
   -- the portions that process j takes of the pools of processes 1 .. k, which stand with the last first
   unfoldable pub portionsTaken : (pools : List ℕ) → (j : ℕ) → ℕ
   portionsTaken [] j = 0
   portionsTaken (pool ∷ pools) j =
       portionsTaken pools j + portionOf pool (output (suc (length pools))) (takers (kilos (suc (length pools))) n) j
 
-  -- the pools of processes 1 .. k, the last first: own goods come from processes of lower number
-  unfoldable pub poolsTo : (k : ℕ) → List ℕ
-  poolsTo zero = []
-  poolsTo (suc k) = (own (suc k) + portionsTaken (poolsTo k) (suc k)) ∷ poolsTo k
+  -- `own k` is the attribution of process k and its bought grams
+  module _ (own : ℕ → ℕ) where
+    -- the pools of processes 1 .. k, the last first: own goods come from processes of lower number
+    unfoldable pub poolsTo : (k : ℕ) → List ℕ
+    poolsTo zero = []
+    poolsTo (suc k) = (own (suc k) + portionsTaken (poolsTo k) (suc k)) ∷ poolsTo k
 
-  -- the pool of process k
-  unfoldable pub poolOf : (k : ℕ) → ℕ
-  poolOf k = getD (poolsTo k) 0 0
+    -- the pool of process k
+    unfoldable pub poolOf : (k : ℕ) → ℕ
+    poolOf k = getD (poolsTo k) 0 0
 
-  unfoldable pub leftOf : (k : ℕ) → ℕ
-  leftOf k = left (poolOf k) (output k) (takers (kilos k) n)
+    unfoldable pub leftOf : (k : ℕ) → ℕ
+    leftOf k = left (poolOf k) (output k) (takers (kilos k) n)

@@ -1,2 +1,4 @@
 -- Laws that the crates above cite.
 pub mod Examples
+pub mod First
+pub mod Accepted

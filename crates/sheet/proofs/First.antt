@@ -1,0 +1,97 @@
+-- The verdict is the first row that applies, in the order of the list of checks; no list is without a verdict. Assumes nothing.
+use mathlib.Core.Path.{_≡_, refl, sym, ap, _∙_}
+use mathlib.Core.Logic.{_↔_, _⊎_, inl, inr}
+use mathlib.Core.Bool.{Bool, true, false, cond}
+use mathlib.Core.List.{List, [], _∷_, _++_}
+use Prim.Native.Nat.{ℕ}
+use native.Mathlib.Omega.{arith}
+use Rattle.decimal.proofs.Bools.{never}
+use Rattle.sheet.specs.Verdict.{Check, Verdict, accepted, refused, firstOf}
+
+module _ {A : Type 0} (P : A → Type 0) where
+  abbrev pub All : List A → Type 0
+  All [] = Unit {0}
+  All (x ∷ xs) = P x × All xs
+
+  pub all-append : (xs ys : List A) → All (xs ++ ys) → All xs × All ys
+  all-append [] ys h = (tt, h)
+  all-append (x ∷ xs) ys h = let r = all-append xs ys (h .1) in ((h .0, r .0), r .1)
+
+-- a row that does not apply
+abbrev pub Passes : Check → Type 0
+Passes c = c .applies ≡ false
+
+-- the row `number` at `line` applies, and none before it in the order of judging does
+pub record First (cs : List Check) (number line : ℕ) : Type 0 where
+  pub before : List Check
+  pub found : Check
+  pub after : List Check
+  pub split : cs ≡ before ++ (found ∷ after)
+  pub earlier : All Passes before
+  pub applies : found .applies ≡ true
+  pub its-number : found .number ≡ number
+  pub its-line : found .line ≡ line
+
+not-accepted : (number line : ℕ) → refused number line ≡ accepted → ⊥
+not-accepted number line e = let z : _≡_ {A = ℕ} 0 1 = cc in omega arith
+
+-- accepted exactly when no row applies
+pub accepted-passes : (cs : List Check) → firstOf cs ≡ accepted → All Passes cs
+unfolding firstOf
+accepted-passes [] h = tt
+accepted-passes (c ∷ cs) h = go (accepted-passes cs) (c .applies) refl h
+  where
+    go : (firstOf cs ≡ accepted → All Passes cs) → (t : Bool) → c .applies ≡ t
+        → cond t (refused (c .number) (c .line)) (firstOf cs) ≡ accepted → (c .applies ≡ false) × All Passes cs
+    go rest true e h = absurd (not-accepted _ _ h)
+    go rest false e h = (e, rest h)
+
+pub passes-accepted : (cs : List Check) → All Passes cs → firstOf cs ≡ accepted
+unfolding firstOf
+passes-accepted [] h = refl
+passes-accepted (c ∷ cs) h = rw (h .0) (passes-accepted cs (h .1))
+
+pub accepted-iff : (cs : List Check) → (firstOf cs ≡ accepted) ↔ All Passes cs
+accepted-iff cs = (accepted-passes cs, passes-accepted cs)
+
+-- refused exactly by the first row that applies
+pub refused-first : (cs : List Check) (number line : ℕ) → firstOf cs ≡ refused number line → First cs number line
+unfolding firstOf
+refused-first [] number line h = absurd (not-accepted number line (sym h))
+refused-first (c ∷ cs) number line h = go (refused-first cs number line) (c .applies) refl h
+  where
+    go : (firstOf cs ≡ refused number line → First cs number line) → (t : Bool) → c .applies ≡ t
+        → cond t (refused (c .number) (c .line)) (firstOf cs) ≡ refused number line → First (c ∷ cs) number line
+    go rest true e h = record { before = []; found = c; after = cs; split = refl; earlier = tt; applies = e; its-number = cc; its-line = cc }
+    go rest false e h =
+        let f = rest h in
+        record {
+          before = c ∷ f .before;
+          found = f .found;
+          after = f .after;
+          split = ap (λ (l : List Check). c ∷ l) (f .split);
+          earlier = (e, f .earlier);
+          applies = f .applies;
+          its-number = f .its-number;
+          its-line = f .its-line;
+        }
+
+first-split : (before : List Check) (c : Check) (after : List Check) → All Passes before → c .applies ≡ true
+    → firstOf (before ++ (c ∷ after)) ≡ refused (c .number) (c .line)
+unfolding firstOf
+first-split [] c after p e = rw e
+first-split (b ∷ before) c after p e = rw (p .0) (first-split before c after (p .1) e)
+
+pub first-refused : (cs : List Check) (number line : ℕ) → First cs number line → firstOf cs ≡ refused number line
+first-refused cs number line f = rw (f .split, first-split (f .before) (f .found) (f .after) (f .earlier) (f .applies), f .its-number, f .its-line)
+
+pub refused-iff : (cs : List Check) (number line : ℕ) → (firstOf cs ≡ refused number line) ↔ First cs number line
+refused-iff cs number line = (refused-first cs number line, first-refused cs number line)
+
+-- a list of checks accepts, or refuses by its first row that applies
+pub decided : (cs : List Check) → All Passes cs ⊎ ((number line : ℕ) × First cs number line)
+decided cs = go (firstOf cs) refl
+  where
+    go : (v : Verdict) → firstOf cs ≡ v → All Passes cs ⊎ ((number line : ℕ) × First cs number line)
+    go accepted e = inl (accepted-passes cs e)
+    go (refused number line) e = inr (number, line, refused-first cs number line e)
