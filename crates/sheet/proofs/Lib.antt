@@ -2,3 +2,4 @@
 pub mod Examples
 pub mod First
 pub mod Accepted
+pub mod OneRecord

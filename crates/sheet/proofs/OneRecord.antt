@@ -1,0 +1,342 @@
+-- What a record's spelling says is the record, and a readable record is spelt as the bytes it was read from: for a field, a line and a sheet.
+-- Each line is a part of the sheet. Assumes nothing.
+use mathlib.Core.Path.{_≡_, refl, sym, ap, ap₂, _∙_}
+use mathlib.Core.Bool.{Bool, true, false, cond, _&&_, not}
+use mathlib.Core.List.{List, [], _∷_, _++_, map, append-nil}
+use Prim.Native.Nat.{ℕ, zero, suc, _<_}
+use native.Mathlib.Nat.{suc-add}
+use native.Mathlib.Numerals.{one-add}
+use native.Mathlib.Omega.{arith}
+use borrow.Author.Tests.{ne-eqb, eqb-true, leb-true, not-true}
+use lib.Dec.{eqb, leb}
+use lib.ListN.{length, take, drop}
+use Rattle.decimal.specs.Number.{isDigit, allDigits, isNumber, value}
+use Rattle.decimal.specs.Spelling.{spelling}
+use Rattle.decimal.proofs.Bools.{never, and-both}
+use Rattle.decimal.proofs.Spelling.{spelling-digits, spelling-value}
+use Rattle.decimal.proofs.OneSpelling.{spelling-number, number-spelling}
+use Rattle.sheet.specs.Lines.{LF, COMMA, Line, line, beforeLine, linesOf, beforeField, fieldsOf, lineBytes, lineStart}
+use Rattle.sheet.specs.Records.{letter, kindOf, kindIn, Field, number, dash, other, isDash, fieldOf, Record, recordFrom, recordOf, recordsOf}
+use Rattle.sheet.specs.Spelling.{spellField, spellFields, spellLine, spellSheet}
+use Rattle.sheet.specs.declared.Kind.{Kind}
+use Rattle.sheet.specs.declared.Kind.the-variants.{Process, SourceStream, Heat, WasteGas, Power, BoughtPrecursor, OwnGood, Unknown}
+
+-- ---- what can be spelt and read again
+
+-- a number or `-`
+abbrev pub plain : Field → Bool
+plain (number n) = true
+plain dash = true
+plain other = false
+
+unfoldable pub allPlain : List Field → Bool
+allPlain [] = true
+allPlain (f ∷ fs) = plain f && allPlain fs
+
+-- one of the seven kinds
+abbrev pub known : Kind → Bool
+known Process = true
+known SourceStream = true
+known Heat = true
+known WasteGas = true
+known Power = true
+known BoughtPrecursor = true
+known OwnGood = true
+known Unknown = false
+
+abbrev pub readable : Record → Bool
+readable r = known (r .kind) && allPlain (r .said)
+
+unfoldable pub allReadable : List Record → Bool
+allReadable [] = true
+allReadable (r ∷ rs) = readable r && allReadable rs
+
+-- each line has its LF and a readable record
+unfoldable pub allRead : List Line → Bool
+allRead [] = true
+allRead (l ∷ ls) = (l .ended && readable (recordOf l)) && allRead ls
+
+-- ---- a field
+
+-- READ AFTER SPELT
+pub read-field : (f : Field) → plain f ≡ true → fieldOf (spellField f) ≡ f
+unfolding fieldOf isNumber
+read-field (number n) h = rw (spelling-number n, spelling-value n)
+read-field dash h = refl
+read-field other h = absurd (never h)
+
+dash-spelt : (bytes : List ℕ) → isDash bytes ≡ true → 45 ∷ [] ≡ bytes
+dash-spelt [] h = absurd (never h)
+dash-spelt (byte ∷ []) h = ap (λ (x : ℕ). x ∷ []) (sym (eqb-true byte 45 h))
+dash-spelt (byte ∷ next ∷ bytes) h = absurd (never h)
+
+-- SPELT AFTER READ
+pub spell-field : (bytes : List ℕ) → plain (fieldOf bytes) ≡ true → spellField (fieldOf bytes) ≡ bytes
+unfolding fieldOf
+spell-field bytes h = go (isNumber bytes) refl (isDash bytes) refl h
+  where
+    go : (n : Bool) → isNumber bytes ≡ n → (d : Bool) → isDash bytes ≡ d → plain (cond n (number (value bytes)) (cond d dash other)) ≡ true
+        → spellField (cond n (number (value bytes)) (cond d dash other)) ≡ bytes
+    go true p d q h = number-spelling bytes p
+    go false p true q h = dash-spelt bytes q
+    go false p false q h = absurd (never h)
+
+-- ---- kinds and their letters
+
+kind-letter : (k : Kind) → kindOf (letter k) ≡ k
+kind-letter Process = refl
+kind-letter SourceStream = refl
+kind-letter Heat = refl
+kind-letter WasteGas = refl
+kind-letter Power = refl
+kind-letter BoughtPrecursor = refl
+kind-letter OwnGood = refl
+kind-letter Unknown = refl
+
+-- one test of `kindOf`: where it fails, the next kind is given
+letter-step : (byte : ℕ) (k next : Kind) → (known next ≡ true → letter next ≡ byte)
+    → known (cond (eqb byte (letter k)) k next) ≡ true → letter (cond (eqb byte (letter k)) k next) ≡ byte
+letter-step byte k next below h = go (eqb byte (letter k)) refl h
+  where
+    go : (t : Bool) → eqb byte (letter k) ≡ t → known (cond t k next) ≡ true → letter (cond t k next) ≡ byte
+    go true e h = sym (eqb-true byte (letter k) e)
+    go false e h = below h
+
+letter-kind : (byte : ℕ) → known (kindOf byte) ≡ true → letter (kindOf byte) ≡ byte
+letter-kind byte =
+    letter-step byte Process _
+    (letter-step byte SourceStream _
+    (letter-step byte Heat _
+    (letter-step byte WasteGas _
+    (letter-step byte Power _
+    (letter-step byte BoughtPrecursor _
+    (letter-step byte OwnGood Unknown (λ h. absurd (never h))))))))
+
+-- the first field of a line of a known kind is the letter alone
+first-field : (first : List ℕ) → known (kindIn first) ≡ true → letter (kindIn first) ∷ [] ≡ first
+first-field [] h = absurd (never h)
+first-field (byte ∷ []) h = ap (λ (x : ℕ). x ∷ []) (letter-kind byte h)
+first-field (byte ∷ next ∷ bytes) h = absurd (never h)
+
+-- ---- what is spelt holds no comma and no LF but those that part fields and lines
+
+-- this byte is none of these
+unfoldable lacks : (byte : ℕ) → List ℕ → Bool
+lacks byte [] = true
+lacks byte (b ∷ bs) = not (eqb b byte) && lacks byte bs
+
+module _ (byte b : ℕ) (bs : List ℕ) (h : lacks byte (b ∷ bs) ≡ true) where
+  lacks-first : eqb b byte ≡ false
+  unfolding lacks
+  lacks-first = not-true (eqb b byte) (and-both (not (eqb b byte)) (lacks byte bs) h .0)
+
+  lacks-rest : lacks byte bs ≡ true
+  unfolding lacks
+  lacks-rest = and-both (not (eqb b byte)) (lacks byte bs) h .1
+
+lacks-append : (byte : ℕ) (a b : List ℕ) → lacks byte a ≡ true → lacks byte b ≡ true → lacks byte (a ++ b) ≡ true
+unfolding lacks
+lacks-append byte [] b h k = k
+lacks-append byte (x ∷ a) b h k = simp (lacks-first byte x a h) (lacks-append byte a b (lacks-rest byte x a h) k)
+
+module _ (byte : ℕ) (low : byte < 45) where
+  digits-lack : (bs : List ℕ) → allDigits bs ≡ true → lacks byte bs ≡ true
+  unfolding lacks allDigits
+  digits-lack [] h = refl
+  digits-lack (b ∷ bs) h =
+      let q = and-both (isDigit b) (allDigits bs) h in
+      let at-least = leb-true 48 b (and-both (leb 48 b) (leb b 57) (q .0) .0) in
+      simp (ne-eqb b byte (λ e. omega arith)) (digits-lack bs (q .1))
+
+  field-lacks : (f : Field) → lacks byte (spellField f) ≡ true
+  unfolding lacks
+  field-lacks (number n) = digits-lack (spelling n) (spelling-digits n)
+  field-lacks dash = simp (ne-eqb 45 byte (λ e. omega arith))
+  field-lacks other = refl
+
+letter-lacks : (k : Kind) → (lacks COMMA (letter k ∷ []) ≡ true) × (lacks LF (letter k ∷ []) ≡ true)
+unfolding lacks
+letter-lacks Process = (refl, refl)
+letter-lacks SourceStream = (refl, refl)
+letter-lacks Heat = (refl, refl)
+letter-lacks WasteGas = (refl, refl)
+letter-lacks Power = (refl, refl)
+letter-lacks BoughtPrecursor = (refl, refl)
+letter-lacks OwnGood = (refl, refl)
+letter-lacks Unknown = (refl, refl)
+
+fields-lack-LF : (fs : List Field) → lacks LF (spellFields fs) ≡ true
+unfolding spellFields lacks
+fields-lack-LF [] = refl
+fields-lack-LF (f ∷ fs) = lacks-append LF (spellField f) (spellFields fs) (field-lacks LF (omega arith) f) (fields-lack-LF fs)
+
+line-lacks-LF : (r : Record) → lacks LF (spellLine r) ≡ true
+unfolding spellLine
+line-lacks-LF r = lacks-append LF (letter (r .kind) ∷ []) (spellFields (r .said)) (letter-lacks (r .kind) .1) (fields-lack-LF (r .said))
+
+-- ---- READ AFTER SPELT: a line
+
+fields-then : (a rest : List ℕ) → lacks COMMA a ≡ true → fieldsOf (a ++ (COMMA ∷ rest)) ≡ a ∷ fieldsOf rest
+unfolding fieldsOf
+fields-then [] rest h = refl
+fields-then (b ∷ a) rest h = simp (lacks-first COMMA b a h) (ap (beforeField b) (fields-then a rest (lacks-rest COMMA b a h)))
+
+fields-last : (a : List ℕ) → lacks COMMA a ≡ true → fieldsOf a ≡ a ∷ []
+unfolding fieldsOf
+fields-last [] h = refl
+fields-last (b ∷ a) h = simp (lacks-first COMMA b a h) (ap (beforeField b) (fields-last a (lacks-rest COMMA b a h)))
+
+fields-spelt : (a : List ℕ) (fs : List Field) → lacks COMMA a ≡ true → fieldsOf (a ++ spellFields fs) ≡ a ∷ map spellField fs
+unfolding spellFields
+fields-spelt a [] h = ap fieldsOf (append-nil a) ∙ fields-last a h
+fields-spelt a (f ∷ fs) h =
+    fields-then a (spellField f ++ spellFields fs) h
+    ∙ ap (λ (l : List (List ℕ)). a ∷ l) (fields-spelt (spellField f) fs (field-lacks COMMA (omega arith) f))
+
+read-fields : (fs : List Field) → allPlain fs ≡ true → map fieldOf (map spellField fs) ≡ fs
+unfolding allPlain
+read-fields [] h = refl
+read-fields (f ∷ fs) h =
+    let q = and-both (plain f) (allPlain fs) h in
+    ap₂ (λ (x : Field) (l : List Field). x ∷ l) (read-field f (q .0)) (read-fields fs (q .1))
+
+pub read-line : (r : Record) (ended : Bool) → readable r ≡ true → recordOf (line (spellLine r) ended) ≡ r
+unfolding recordOf spellLine
+read-line r ended h =
+    ap recordFrom (fields-spelt (letter (r .kind) ∷ []) (r .said) (letter-lacks (r .kind) .0))
+    ∙ ap₂ (λ (k : Kind) (fs : List Field). record { kind = k; said = fs }) (kind-letter (r .kind))
+    (read-fields (r .said) (and-both (known (r .kind)) (allPlain (r .said)) h .1))
+
+-- ---- SPELT AFTER READ: a line
+
+-- fields, each with the comma before it
+unfoldable afterCommas : List (List ℕ) → List ℕ
+afterCommas [] = []
+afterCommas (f ∷ fs) = COMMA ∷ (f ++ afterCommas fs)
+
+-- fields with commas between them
+abbrev joinFields : List (List ℕ) → List ℕ
+joinFields [] = []
+joinFields (f ∷ fs) = f ++ afterCommas fs
+
+-- a line has at least one field
+comma-before : (bytes : List ℕ) → afterCommas (fieldsOf bytes) ≡ COMMA ∷ joinFields (fieldsOf bytes)
+unfolding afterCommas fieldsOf
+comma-before [] = refl
+comma-before (b ∷ bytes) = go (eqb b COMMA) (fieldsOf bytes)
+  where
+    go : (t : Bool) (fs : List (List ℕ))
+        → afterCommas (cond t ([] ∷ fs) (beforeField b fs)) ≡ COMMA ∷ joinFields (cond t ([] ∷ fs) (beforeField b fs))
+    go true fs = refl
+    go false [] = refl
+    go false (f ∷ fs) = refl
+
+join-before : (b : ℕ) (fs : List (List ℕ)) → joinFields (beforeField b fs) ≡ b ∷ joinFields fs
+unfolding afterCommas
+join-before b [] = refl
+join-before b (f ∷ fs) = refl
+
+join-fields : (bytes : List ℕ) → joinFields (fieldsOf bytes) ≡ bytes
+unfolding fieldsOf afterCommas
+join-fields [] = refl
+join-fields (b ∷ bytes) = go (join-fields bytes) (eqb b COMMA) refl
+  where
+    go : joinFields (fieldsOf bytes) ≡ bytes → (t : Bool) → eqb b COMMA ≡ t
+        → joinFields (cond t ([] ∷ fieldsOf bytes) (beforeField b (fieldsOf bytes))) ≡ b ∷ bytes
+    go ih true e = comma-before bytes ∙ ap₂ (λ (x : ℕ) (l : List ℕ). x ∷ l) (sym (eqb-true b COMMA e)) ih
+    go ih false e = join-before b (fieldsOf bytes) ∙ ap (λ (l : List ℕ). b ∷ l) ih
+
+spell-fields : (fs : List (List ℕ)) → allPlain (map fieldOf fs) ≡ true → spellFields (map fieldOf fs) ≡ afterCommas fs
+unfolding spellFields afterCommas allPlain
+spell-fields [] h = refl
+spell-fields (f ∷ fs) h =
+    let q = and-both (plain (fieldOf f)) (allPlain (map fieldOf fs)) h in
+    ap₂ (λ (x l : List ℕ). COMMA ∷ (x ++ l)) (spell-field f (q .0)) (spell-fields fs (q .1))
+
+spell-from : (fs : List (List ℕ)) → readable (recordFrom fs) ≡ true → spellLine (recordFrom fs) ≡ joinFields fs
+unfolding spellLine
+spell-from [] h = absurd (never h)
+spell-from (first ∷ fs) h =
+    let q = and-both (known (kindIn first)) (allPlain (map fieldOf fs)) h in
+    ap₂ (λ (x l : List ℕ). x ++ l) (first-field first (q .0)) (spell-fields fs (q .1))
+
+pub spell-line : (l : Line) → readable (recordOf l) ≡ true → spellLine (recordOf l) ≡ l .bytes
+unfolding recordOf
+spell-line l h = spell-from (fieldsOf (l .bytes)) h ∙ join-fields (l .bytes)
+
+-- lines of one record have the same bytes
+pub one-record : (a b : Line) → readable (recordOf a) ≡ true → readable (recordOf b) ≡ true
+    → recordOf a ≡ recordOf b → a .bytes ≡ b .bytes
+one-record a b p q e = sym (spell-line a p) ∙ ap spellLine e ∙ spell-line b q
+
+-- ---- READ AFTER SPELT: a sheet
+
+lines-then : (a rest : List ℕ) → lacks LF a ≡ true → linesOf (a ++ (LF ∷ rest)) ≡ line a true ∷ linesOf rest
+unfolding linesOf
+lines-then [] rest h = refl
+lines-then (b ∷ a) rest h = simp (lacks-first LF b a h) (ap (beforeLine b) (lines-then a rest (lacks-rest LF b a h)))
+
+pub read-sheet : (rs : List Record) → allReadable rs ≡ true → recordsOf (spellSheet rs) ≡ rs
+unfolding recordsOf spellSheet linesOf allReadable
+read-sheet [] h = refl
+read-sheet (r ∷ rs) h =
+    let q = and-both (readable r) (allReadable rs) h in
+    ap (map recordOf) (lines-then (spellLine r) (spellSheet rs) (line-lacks-LF r))
+    ∙ ap₂ (λ (x : Record) (l : List Record). x ∷ l) (read-line r true (q .0)) (read-sheet rs (q .1))
+
+-- ---- SPELT AFTER READ: a sheet
+
+-- lines, each with its LF if it had one
+unfoldable pub joinLines : List Line → List ℕ
+joinLines [] = []
+joinLines (l ∷ ls) = l .bytes ++ cond (l .ended) (LF ∷ joinLines ls) (joinLines ls)
+
+-- the lines of a sheet, joined, are the sheet
+pub join-lines : (sheet : List ℕ) → joinLines (linesOf sheet) ≡ sheet
+unfolding joinLines linesOf
+join-lines [] = refl
+join-lines (b ∷ bytes) = go (eqb b LF) refl (linesOf bytes) (join-lines bytes)
+  where
+    go : (t : Bool) → eqb b LF ≡ t → (ls : List Line) → joinLines ls ≡ bytes
+        → joinLines (cond t (line [] true ∷ ls) (beforeLine b ls)) ≡ b ∷ bytes
+    go true e ls ih = ap₂ (λ (x : ℕ) (m : List ℕ). x ∷ m) (sym (eqb-true b LF e)) ih
+    go false e [] ih = ap (λ (m : List ℕ). b ∷ m) ih
+    go false e (l ∷ ls) ih = ap (λ (m : List ℕ). b ∷ m) ih
+
+spell-lines : (ls : List Line) → allRead ls ≡ true → spellSheet (map recordOf ls) ≡ joinLines ls
+unfolding allRead spellSheet joinLines
+spell-lines [] h = refl
+spell-lines (l ∷ ls) h =
+    let q = and-both (l .ended && readable (recordOf l)) (allRead ls) h in
+    let p = and-both (l .ended) (readable (recordOf l)) (q .0) in
+    rw (spell-line l (p .1), p .0, spell-lines ls (q .1))
+
+pub spell-sheet : (sheet : List ℕ) → allRead (linesOf sheet) ≡ true → spellSheet (recordsOf sheet) ≡ sheet
+unfolding recordsOf
+spell-sheet sheet h = spell-lines (linesOf sheet) h ∙ join-lines sheet
+
+-- ---- a line is a part of the sheet
+
+-- the bytes from the start of line n, as many as the line has, are the line; past the last line there are none
+abbrev Part : List Line → (bytes : List ℕ) → (n : ℕ) → Type 0
+Part ls bytes n = take (length (lineBytes ls n)) (drop (lineStart ls n) bytes) ≡ lineBytes ls n
+
+pub line-part : (sheet : List ℕ) (n : ℕ)
+    → take (length (lineBytes (linesOf sheet) n)) (drop (lineStart (linesOf sheet) n) sheet) ≡ lineBytes (linesOf sheet) n
+unfolding linesOf lineBytes lineStart
+line-part [] n = none n
+  where
+    none : (n : ℕ) → Part [] [] n
+    none zero = refl
+    none (suc n) = refl
+line-part (b ∷ bytes) n = go (eqb b LF) (linesOf bytes) (line-part bytes) n
+  where
+    go : (t : Bool) (ls : List Line) → ((n : ℕ) → Part ls bytes n) → (n : ℕ)
+        → Part (cond t (line [] true ∷ ls) (beforeLine b ls)) (b ∷ bytes) n
+    go t ls ih zero = refl
+    go true ls ih (suc zero) = refl
+    go true ls ih (suc (suc n)) = rw one-add (ih (suc n))
+    go false [] ih (suc zero) = refl
+    go false [] ih (suc (suc n)) = refl
+    go false (l ∷ ls) ih (suc zero) = ap (λ (m : List ℕ). b ∷ m) (ih 1)
+    go false (l ∷ ls) ih (suc (suc n)) = rw (suc-add (suc (length (l .bytes)))) (ih (suc (suc n)))
