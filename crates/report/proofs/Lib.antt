@@ -1,2 +1,5 @@
 -- Laws that the crates above cite.
 pub mod Marked
+pub mod Reading
+pub mod OneReport
+pub mod Outcome
