@@ -3,3 +3,7 @@ pub mod Differences
 pub mod Sums
 pub mod Portions
 pub mod Pools
+pub mod Entries
+pub mod Accepted
+pub mod Works
+pub mod Exact

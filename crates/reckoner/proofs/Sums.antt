@@ -4,8 +4,8 @@ use mathlib.Core.Bool.{Bool, true, false, cond}
 use mathlib.Core.List.{List, [], _∷_}
 use Prim.Native.Nat.{ℕ, zero, suc, _+_, _-_, _≤_, _<_}
 use native.Mathlib.Omega.{arith}
-use native.Mathlib.Decide.{le-ind}
-use native.Mathlib.Nat.{le-refl}
+use native.Mathlib.Decide.{le-ind, decLe}
+use native.Mathlib.Nat.{le-refl, lt-of-not-le}
 use lib.Dec.{eqb}
 use lib.IntN.{ℤ, pos, _+ℤ_}
 use borrow.Author.Tests.{eqb-true, eqb-false, eq-eqb, ne-eqb}
@@ -73,6 +73,11 @@ unfolding sumOf
 of-ext f g [] h = refl
 of-ext f g (r ∷ rs) h = omega (arith, h r, of-ext f g rs h)
 
+pub of-le : (f g : Record → ℕ) (rs : List Record) → ((r : Record) → f r ≤ g r) → sumOf f rs ≤ sumOf g rs
+unfolding sumOf
+of-le f g [] h = omega arith
+of-le f g (r ∷ rs) h = omega (arith, h r, of-le f g rs h)
+
 -- the two sums change places
 pub sum-swap : (n : ℕ) (f : ℕ → Record → ℕ) (rs : List Record) → sumTo n (λ k. sumOf (f k) rs) ≡ sumOf (λ r. sumTo n (λ k. f k r)) rs
 unfolding sumOf
@@ -136,3 +141,10 @@ at-sum (suc n) p g h = go (λ (l : p ≤ n). at-sum n p g l) (eqb (suc n) p) ref
         let z = at-other (suc n) p g ne in
         let y = rest (omega arith) in
         omega arith
+
+pub at-sum-le : (n p g : ℕ) → sumTo n (λ k. onlyAt k p g) ≤ g
+at-sum-le n p g =
+    elim (decLe p n) [
+      | yes h ↦ omega (arith, at-sum n p g h)
+      | no h ↦ omega (arith, at-below p g n (lt-of-not-le h))
+    ]

@@ -33,15 +33,15 @@ to r = numberAt r 1
 
 -- kilograms of output that a line states for process n
 abbrev pub outputIn : (n : ℕ) → Record → ℕ
-outputIn n r = cond (is Process r && eqb (process r) n) (numberAt r 1) 0
+outputIn n r = cond (is Process r && eqb n (process r)) (numberAt r 1) 0
 
 -- kilograms of the output of process n that a line takes
 abbrev pub takenIn : (n : ℕ) → Record → ℕ
-takenIn n r = cond (is OwnGood r && eqb (from r) n) (numberAt r 2) 0
+takenIn n r = cond (is OwnGood r && eqb n (from r)) (numberAt r 2) 0
 
 -- process n may be named: it is outside the works, or has a P line above
 abbrev pub hasProcess : (above : List Record) → (n : ℕ) → Bool
-hasProcess above n = eqb n 0 || anyOf (λ r. is Process r && eqb (process r) n) above
+hasProcess above n = eqb n 0 || anyOf (λ r. is Process r && eqb n (process r)) above
 
 module _ (limits : Limits) where
   -- 1: over 65,536 bytes

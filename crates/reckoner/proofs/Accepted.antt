@@ -1,0 +1,174 @@
+-- What an accepted sheet gives the reckoner: every line is valid, and no more is taken of a good than its output. Assumes nothing.
+use mathlib.Core.Path.{_≡_, refl, sym, ap, _∙_}
+use mathlib.Core.Logic.{_⊎_, inl, inr}
+use mathlib.Core.Bool.{Bool, true, false, cond, _&&_, _||_, not}
+use mathlib.Core.List.{List, [], _∷_, map}
+use Prim.Native.Nat.{ℕ, zero, suc, _+_, _-_, _≤_, _<_}
+use native.Mathlib.Omega.{arith}
+use native.Mathlib.Nat.{lt-of-not-le, le-refl}
+use native.Mathlib.Decide.{decLe}
+use lib.Dec.{eqb, ltb, leb}
+use lib.ListN.{length, getD}
+use borrow.Author.Tests.{eqb-true, eqb-false, ltb-true, ltb-false, leb-true, not-true, not-false}
+use Rattle.decimal.proofs.Bools.{never, and-both, or-neither, or-either}
+use Rattle.sheet.specs.Limits.{Limits}
+use Rattle.sheet.specs.Lines.{Line, linesOf}
+use Rattle.sheet.specs.Records.{Field, other, Record, recordOf, recordsOf, numberAt, is}
+use Rattle.sheet.specs.Kinds.{rules, rulesOf}
+use Rattle.sheet.specs.Refusals.{anyOf, sumOf, process, from, to, outputIn, takenIn, hasProcess, unknownKind, processNotNext, missingProcess, endsNotAllowed, outputExceeded}
+use Rattle.sheet.specs.Verdict.{fieldChecks}
+use Rattle.sheet.specs.declared.Kind.{Kind}
+use Rattle.sheet.specs.declared.Kind.the-variants.{Process, SourceStream, Heat, WasteGas, Power, BoughtPrecursor, OwnGood, Unknown}
+use Rattle.sheet.proofs.First.{All, Passes}
+use Rattle.sheet.proofs.Accepted.{Fine, AllFine, FineSheet, fields-in-range}
+use Rattle.reckoner.specs.Sums.{sumTo, onlyAt}
+use Rattle.reckoner.specs.Reckoning.{kilosOf, processCount, output, kilosBetween}
+use Rattle.reckoner.proofs.Sums.{sum-swap, sum-ext, sum-none, of-le, at-sum-le}
+use Rattle.reckoner.proofs.Entries.{recordIs, ValidOf, Valid}
+
+-- ---- processes are numbered 1 .. processCount
+
+-- every process with a P line above is numbered by the count of P lines
+abbrev pub Numbered : (above : List Record) → Type 0
+Numbered above = (p : ℕ) → anyOf (λ r. is Process r && eqb p (process r)) above ≡ true → p ≤ processCount above
+
+all-processes : (above : List Record) → anyOf (λ q. not (is Process q)) above ≡ false → processCount above ≡ length above
+unfolding processCount anyOf sumOf
+all-processes [] h = refl
+all-processes (r ∷ above) h =
+    let q = or-neither (not (is Process r)) (anyOf (λ q. not (is Process q)) above) h in
+    rw (not-false (is Process r) (q .0)) (omega (arith, all-processes above (q .1)))
+
+numbered-next : (limits : Limits) (above : List Record) (r : Record) → processNotNext limits above r ≡ false → Numbered above → Numbered (r ∷ above)
+unfolding anyOf processCount sumOf
+numbered-next limits above r next num p h = go (is Process r) next h
+  where
+    go : (b : Bool) → (b && (not (eqb (process r) (suc (length above))) || anyOf (λ q. not (is Process q)) above)) ≡ false
+        → ((b && eqb p (process r)) || anyOf (λ q. is Process q && eqb p (process q)) above) ≡ true → p ≤ cond b 1 0 + processCount above
+    go false n h = omega (arith, num p h)
+    go true n h =
+        let q = or-neither (not (eqb (process r) (suc (length above)))) (anyOf (λ q. not (is Process q)) above) n in
+        let here = eqb-true (process r) (suc (length above)) (not-false (eqb (process r) (suc (length above))) (q .0)) in
+        let all = all-processes above (q .1) in
+        either (or-either (eqb p (process r)) (anyOf (λ q. is Process q && eqb p (process q)) above) h) here all
+      where
+        either : (eqb p (process r) ≡ true) ⊎ (anyOf (λ q. is Process q && eqb p (process q)) above ≡ true)
+            → process r ≡ suc (length above) → processCount above ≡ length above → p ≤ 1 + processCount above
+        either (inl e) here all = omega (arith, eqb-true p (process r) e)
+        either (inr e) here all = omega (arith, num p e)
+
+-- ---- every line is valid
+
+module _ (limits : Limits) (above : List Record) (num : Numbered above) (n : ℕ) (few : processCount above ≤ n) where
+  named-in : (p : ℕ) → not (hasProcess above p) ≡ false → p ≤ n
+  named-in p h = go (or-either (eqb p 0) (anyOf (λ r. is Process r && eqb p (process r)) above) (not-false (hasProcess above p) h))
+    where
+      go : (eqb p 0 ≡ true) ⊎ (anyOf (λ r. is Process r && eqb p (process r)) above ≡ true) → p ≤ n
+      go (inl e) = omega (arith, eqb-true p 0 e)
+      go (inr e) = omega (arith, num p e)
+
+  module _ (k : Kind) (said : List Field) where
+    abbrev r : Record
+    r = recordIs k said
+
+    -- a kind that names one process, and a kind that names two
+    one-named : (not (hasProcess above (process r)) || false) ≡ false → process r ≤ n
+    one-named h = named-in (process r) (or-neither (not (hasProcess above (process r))) false h .0)
+
+    both-named : (not (hasProcess above (from r)) || not (hasProcess above (to r))) ≡ false → (from r ≤ n) × (to r ≤ n)
+    both-named h =
+        let q = or-neither (not (hasProcess above (from r))) (not (hasProcess above (to r))) h in
+        (named-in (from r) (q .0), named-in (to r) (q .1))
+
+  valid-of : (k : Kind) (said : List Field) → unknownKind limits (recordIs k said) ≡ false
+      → length said ≡ length (rulesOf limits (recordIs k said)) → All Passes (fieldChecks limits (suc (length above)) (rulesOf limits (recordIs k said)) said)
+      → missingProcess limits above (recordIs k said) ≡ false → endsNotAllowed limits (recordIs k said) ≡ false → Valid n (recordIs k said)
+  unfolding rules
+  valid-of Process said u c f m e = tt
+  valid-of SourceStream said u c f m e = (fields-in-range limits (suc (length above)) _ said c f 0 (omega arith) refl .0, one-named SourceStream said m)
+  valid-of Heat said u c f m e = both-named Heat said m
+  valid-of WasteGas said u c f m e =
+      let b = both-named WasteGas said m in
+      (b .0, b .1, eqb-false (from (recordIs WasteGas said)) (to (recordIs WasteGas said)) e, fields-in-range limits (suc (length above)) _ said c f 2 (omega arith) refl .0)
+  valid-of Power said u c f m e = both-named Power said m
+  valid-of BoughtPrecursor said u c f m e = (fields-in-range limits (suc (length above)) _ said c f 0 (omega arith) refl .0, one-named BoughtPrecursor said m)
+  valid-of OwnGood said u c f m e =
+      let g : Record = recordIs OwnGood said in
+      let q = and-both (leb 1 (from g)) (ltb (from g) (to g)) (not-false (leb 1 (from g) && ltb (from g) (to g)) e) in
+      (leb-true 1 (from g) (q .0), ltb-true (from g) (to g) (q .1), both-named OwnGood said m .1)
+  valid-of Unknown said u c f m e = absurd (never (sym u))
+
+  line-valid : (l : Line) → Fine limits above l → Valid n (recordOf l)
+  line-valid l f = valid-of (recordOf l .kind) (recordOf l .said) (f .known) (f .counted) (f .fields) (f .named) (f .ends)
+
+lines-valid : (limits : Limits) (above : List Record) (ls : List Line) (n : ℕ) → Numbered above
+    → processCount above + processCount (map recordOf ls) ≤ n → AllFine limits above ls → All (Valid n) (map recordOf ls)
+unfolding processCount sumOf
+lines-valid limits above [] n num few fine = tt
+lines-valid limits above (l ∷ ls) n num few fine = (
+  line-valid limits above num n (omega arith) l (fine .0),
+  lines-valid limits (recordOf l ∷ above) ls n (numbered-next limits above (recordOf l) (fine .0 .next) num) (omega arith) (fine .1),
+)
+
+-- ---- no more is taken of a good than its output
+
+abbrev pub Within : (above : List Record) → Type 0
+Within above = (i : ℕ) → sumOf (takenIn i) above ≤ sumOf (outputIn i) above
+
+within-next : (limits : Limits) (above : List Record) (r : Record) → outputExceeded limits above r ≡ false → Within above → Within (r ∷ above)
+unfolding sumOf
+within-next limits above r h w i = go (is OwnGood r) h (eqb i (from r)) refl
+  where
+    go : (b : Bool) → (b && ltb (sumOf (outputIn (from r)) above) (sumOf (takenIn (from r)) above + numberAt r 2)) ≡ false
+        → (c : Bool) → eqb i (from r) ≡ c → cond (b && c) (numberAt r 2) 0 + sumOf (takenIn i) above ≤ outputIn i r + sumOf (outputIn i) above
+    go false h c e = omega (arith, w i)
+    go true h false e = omega (arith, w i)
+    go true h true e =
+        let q = eqb-true i (from r) e in
+        let l = ltb-false (sumOf (outputIn (from r)) above) (sumOf (takenIn (from r)) above + numberAt r 2) h in
+        rw q (omega arith)
+
+lines-within : (limits : Limits) (above : List Record) (ls : List Line) → Within above → AllFine limits above ls
+    → (i : ℕ) → sumOf (takenIn i) above + sumOf (takenIn i) (map recordOf ls) ≤ sumOf (outputIn i) above + sumOf (outputIn i) (map recordOf ls)
+unfolding sumOf
+lines-within limits above [] w fine i = omega (arith, w i)
+lines-within limits above (l ∷ ls) w fine i =
+    omega (arith, lines-within limits (recordOf l ∷ above) ls (within-next limits above (recordOf l) (fine .0 .within) w) (fine .1) i)
+
+-- the kilograms that 1 .. n take of a good are taken by its G lines
+taken-of : (n i : ℕ) (r : Record) → sumTo n (λ j. onlyAt i (from r) (onlyAt j (to r) (kilosOf r))) ≤ takenIn i r
+unfolding onlyAt kilosOf
+taken-of n i r = go (eqb i (from r)) (is OwnGood r)
+  where
+    go : (b c : Bool) → sumTo n (λ j. cond b (onlyAt j (to r) (cond c (numberAt r 2) 0)) 0) ≤ cond (c && b) (numberAt r 2) 0
+    go false true = omega (arith, sum-none n)
+    go false false = omega (arith, sum-none n)
+    go true true = at-sum-le n (to r) (numberAt r 2)
+    go true false = at-sum-le n (to r) 0
+
+kilos-taken : (n i : ℕ) (rs : List Record) → sumTo n (kilosBetween rs i) ≤ sumOf (takenIn i) rs
+unfolding kilosBetween
+kilos-taken n i rs =
+    rw (sum-swap n (λ j r. onlyAt i (from r) (onlyAt j (to r) (kilosOf r))) rs)
+    (of-le _ _ rs (λ r. taken-of n i r))
+
+-- ---- what the reckoner may rely on
+
+pub record Accepted (rs : List Record) : Type 0 where
+  pub valid : All (Valid (processCount rs)) rs
+  pub within : (i : ℕ) → sumTo (processCount rs) (kilosBetween rs i) ≤ output rs i
+
+none-numbered : Numbered []
+unfolding anyOf
+none-numbered p h = absurd (never h)
+
+pub sheet-accepted : (limits : Limits) (sheet : List ℕ) → FineSheet limits sheet → Accepted (recordsOf sheet)
+unfolding recordsOf output sumOf processCount
+sheet-accepted limits sheet f = record {
+  valid = lines-valid limits [] (linesOf sheet) (processCount (map recordOf (linesOf sheet))) none-numbered (omega arith) (f .lines);
+  within = λ i. omega (
+    arith,
+    kilos-taken (processCount (map recordOf (linesOf sheet))) i (map recordOf (linesOf sheet)),
+    lines-within limits [] (linesOf sheet) (λ j. omega arith) (f .lines) i,
+  );
+}

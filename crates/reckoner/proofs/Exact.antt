@@ -1,0 +1,123 @@
+-- When left equals entered: exactly when no process balance is below zero and no waste gas passed between two processes; otherwise left is
+-- greater. Assumes nothing.
+use mathlib.Core.Path.{_≡_, refl, sym, _∙_}
+use mathlib.Core.Logic.{_↔_}
+use mathlib.Core.Bool.{Bool, true, false, cond, _||_}
+use mathlib.Core.List.{List, [], _∷_}
+use Prim.Native.Nat.{ℕ, zero, suc, _+_, _-_, _≤_, _<_}
+use native.Mathlib.Omega.{arith}
+use lib.Dec.{eqb, ltb, le→leb, lt→ltb}
+use lib.IntN.{ℤ, pos, negsuc}
+use lib.Signed.{_≤ℤ_, _<ℤ_}
+use borrow.Author.Tests.{eqb-true, eqb-false, ltb-true, ltb-false}
+use Rattle.quantity.proofs.Weights.{credit-below-charge}
+use Rattle.decimal.proofs.Bools.{never}
+use Rattle.sheet.specs.Records.{Field, Record, numberAt, is}
+use Rattle.sheet.specs.Refusals.{sumOf, from, to}
+use Rattle.sheet.specs.declared.Kind.{Kind}
+use Rattle.sheet.specs.declared.Kind.the-variants.{Process, SourceStream, Heat, WasteGas, Power, BoughtPrecursor, OwnGood, Unknown}
+use Rattle.sheet.proofs.First.{All}
+use Rattle.reckoner.specs.Attribution.{chargeOf, creditOf, gramsAdded, balance, raised}
+use Rattle.reckoner.specs.Reckoning.{processCount, totalLeft, entered, totalRaised, uncredited}
+use Rattle.reckoner.proofs.Differences.{diff, diff-pos, diff-eq, diff-inj, diff-ge, diff-lt}
+use Rattle.reckoner.proofs.Sums.{sum-zero-at, sum-zero-all}
+use Rattle.reckoner.proofs.Entries.{recordIs, entry, Valid, figures, entered-is}
+use Rattle.reckoner.proofs.Accepted.{Accepted}
+use Rattle.reckoner.proofs.Works.{conserved}
+
+-- ---- the condition
+
+-- a W line between two processes
+pub record GasBetween (r : Record) : Type 0 where
+  pub gas : is WasteGas r ≡ true
+  pub from-process : 1 ≤ from r
+  pub to-process : 1 ≤ to r
+
+-- no process balance is below zero, and no waste gas passed between two processes
+pub record NothingAdded (rs : List Record) : Type 0 where
+  pub balances : (k : ℕ) → 1 ≤ k → k ≤ processCount rs → pos 0 ≤ℤ balance rs k
+  pub no-gas : All (λ r. ¬ GasBetween r) rs
+
+-- ---- uncredited is 0 exactly when no waste gas passed between two processes
+
+lost-none : (f t charge credit : ℕ) → credit < charge → (cond (eqb 0 f || eqb 0 t) 0 (charge - credit) ≡ 0) ↔ ((1 ≤ f) → (1 ≤ t) → ⊥)
+lost-none f t charge credit lt = go (eqb 0 f) refl (eqb 0 t) refl
+  where
+    go : (a : Bool) → eqb 0 f ≡ a → (b : Bool) → eqb 0 t ≡ b → (cond (a || b) 0 (charge - credit) ≡ 0) ↔ ((1 ≤ f) → (1 ≤ t) → ⊥)
+    go true p b q = let u = eqb-true 0 f p in (λ e x y. omega arith, λ h. refl)
+    go false p true q = let u = eqb-true 0 t q in (λ e x y. omega arith, λ h. refl)
+    go false p false q =
+        let u = eqb-false 0 f p in
+        let w = eqb-false 0 t q in
+        (λ e x y. omega arith, λ h. absurd (h (omega arith) (omega arith)))
+
+lost-zero : (n : ℕ) (k : Kind) (said : List Field) → Valid n (recordIs k said)
+    → (entry (recordIs k said) .lost ≡ 0) ↔ (¬ GasBetween (recordIs k said))
+unfolding chargeOf creditOf
+lost-zero n Process said v = (λ e g. never (g .gas), λ h. refl)
+lost-zero n SourceStream said v = (λ e g. never (g .gas), λ h. refl)
+lost-zero n Heat said v = (λ e g. never (g .gas), λ h. refl)
+lost-zero n WasteGas said v =
+    let r : Record = recordIs WasteGas said in
+    let l = lost-none (from r) (to r) _ _ (credit-below-charge (numberAt r 2) (v .3)) in
+    (λ e g. l .0 e (g .from-process) (g .to-process), λ h. l .1 (λ f t. h (record { gas = refl; from-process = f; to-process = t })))
+lost-zero n Power said v = (λ e g. never (g .gas), λ h. refl)
+lost-zero n BoughtPrecursor said v = (λ e g. never (g .gas), λ h. refl)
+lost-zero n OwnGood said v = (λ e g. never (g .gas), λ h. refl)
+lost-zero n Unknown said v = absurd v
+
+lost-all : (n : ℕ) (rs : List Record) → All (Valid n) rs → (sumOf (λ r. entry r .lost) rs ≡ 0) ↔ All (λ r. ¬ GasBetween r) rs
+unfolding sumOf
+lost-all n [] v = (λ e. tt, λ h. refl)
+lost-all n (r ∷ rs) v =
+    let a = lost-zero n (r .kind) (r .said) (v .0) in
+    let b = lost-all n rs (v .1) in
+    (λ e. (a .0 (omega arith), b .0 (omega arith)), λ h. let x = a .1 (h .0) in let y = b .1 (h .1) in omega arith)
+
+-- ---- raised is 0 exactly when no balance is below zero
+
+not-below : (z : ℤ) → (gramsAdded z ≡ 0) ↔ (pos 0 ≤ℤ z)
+not-below (pos a) = (λ e. record { le = le→leb 0 a (omega arith) }, λ h. refl)
+not-below (negsuc a) = (λ (e : suc a ≡ 0). absurd (omega arith), λ h. absurd (h .le))
+
+-- a difference below a number
+diff-below : (a b c : ℕ) → a < c + b → diff a b <ℤ pos c
+diff-below a b c h = go (ltb a b) refl
+  where
+    go : (t : Bool) → ltb a b ≡ t → diff a b <ℤ pos c
+    go true e = rw (diff-lt a b (ltb-true a b e)) (record { lt = tt })
+    go false e = let g = ltb-false a b e in rw (diff-ge a b g) (record { lt = lt→ltb (a - b) c (omega arith) })
+
+-- ---- the theorem
+
+module _ (rs : List Record) (ok : Accepted rs) where
+  nothing-added : (totalRaised rs + uncredited rs ≡ 0) ↔ NothingAdded rs
+  unfolding totalRaised raised
+  nothing-added =
+      let lost = figures 0 rs .lost in
+      let l = lost-all (processCount rs) rs (ok .valid) in (
+        λ e. record {
+          balances = λ k a b. not-below (balance rs k) .0 (sum-zero-at (processCount rs) (raised rs) (omega arith) k a b);
+          no-gas = l .0 (omega arith);
+        },
+        λ h. let a = sum-zero-all (processCount rs) (raised rs) (λ k i j. not-below (balance rs k) .1 (h .balances k i j)) in
+            let b = l .1 (h .no-gas) in
+            omega arith,
+      )
+
+  equal-iff-none : (pos (totalLeft rs) ≡ entered rs) ↔ (totalRaised rs + uncredited rs ≡ 0)
+  equal-iff-none =
+      let c = conserved rs ok in (
+        λ e. let d = diff-inj _ _ _ _ (sym (diff-pos (totalLeft rs)) ∙ e ∙ entered-is rs) in omega arith,
+        λ e. diff-pos (totalLeft rs) ∙ diff-eq _ _ _ _ (omega arith) ∙ sym (entered-is rs),
+      )
+
+  pub left-equals-entered : (pos (totalLeft rs) ≡ entered rs) ↔ NothingAdded rs
+  left-equals-entered =
+      (λ e. nothing-added .0 (equal-iff-none .0 e), λ h. equal-iff-none .1 (nothing-added .1 h))
+
+  pub otherwise-greater : ¬ NothingAdded rs → entered rs <ℤ pos (totalLeft rs)
+  otherwise-greater h =
+      let some : totalRaised rs + uncredited rs ≡ 0 → ⊥ = λ e. h (nothing-added .0 e) in
+      let c = conserved rs ok in
+      rw (entered-is rs) (diff-below _ _ _ (omega arith))
