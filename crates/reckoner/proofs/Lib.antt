@@ -7,3 +7,4 @@ pub mod Entries
 pub mod Accepted
 pub mod Works
 pub mod Exact
+pub mod Sheet

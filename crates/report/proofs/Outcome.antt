@@ -1,55 +1,85 @@
--- What the job leaves in the report space, and the outcome of each verdict. Assumes nothing.
+-- The verdict of every sheet and report space, the outcome of each verdict, and the report's totals. Assumes nothing.
 use mathlib.Core.Path.{_≡_, refl}
-use mathlib.Core.Bool.{Bool, true, false, cond}
+use mathlib.Core.Logic.{_↔_, _⊎_}
 use mathlib.Core.List.{List, [], _∷_, _++_}
 use Prim.Native.Nat.{ℕ, _≤_}
 use native.Mathlib.Omega.{arith}
 use borrow.Author.Tests.{ltb-false}
+use lib.IntN.{pos, _+ℤ_}
+use lib.Signed.{_<ℤ_}
 use lib.ListN.{length, drop, length-append, length-drop}
 use Rattle.sheet.specs.Limits.{Limits}
-use Rattle.sheet.specs.Verdict.{Check, check, Verdict, accepted, refused, firstOf}
-use Rattle.reckoner.specs.Verdict.{reckonerChecks}
+use Rattle.sheet.specs.Records.{recordsOf}
+use Rattle.sheet.specs.Verdict.{Check, check, Verdict, accepted, refused, sheetChecks}
+use Rattle.sheet.proofs.First.{All, all-append, Passes, First, accepted-iff, refused-iff, decided}
+use Rattle.reckoner.specs.Reckoning.{reckoning}
+use Rattle.reckoner.specs.Verdict.{figureTooLarge, reckonerChecks}
+use Rattle.reckoner.proofs.Exact.{NothingAdded}
+use Rattle.reckoner.proofs.Sheet.{totalsOf, third-property, third-property-exact, third-property-greater}
 use Rattle.report.specs.Outcome.{sheetReport, spaceTooShort, allChecks, verdict, outcome}
 
--- ---- the outcome of each verdict
+module _ (limits : Limits) (sheet space : List ℕ) where
+  -- ---- the verdict
 
-pub refused-untouched : (limits : Limits) (sheet space : List ℕ) (number line : ℕ) → verdict limits sheet space ≡ refused number line
-    → outcome limits sheet space ≡ record { number = number; line = line; length = 0; space = space }
-unfolding outcome
-refused-untouched limits sheet space number line e = rw e
+  -- a sheet is accepted exactly when no row applies to it
+  pub verdict-accepted : (verdict limits sheet space ≡ accepted) ↔ All Passes (allChecks limits sheet space)
+  unfolding verdict
+  verdict-accepted = accepted-iff (allChecks limits sheet space)
 
-pub accepted-written : (limits : Limits) (sheet space : List ℕ) → verdict limits sheet space ≡ accepted
-    → outcome limits sheet space
-    ≡ record { number = 0; line = 0; length = length (sheetReport sheet); space = sheetReport sheet ++ drop (length (sheetReport sheet)) space }
-unfolding outcome
-accepted-written limits sheet space e = rw e
+  -- it is refused by the first row that applies in the order of judging
+  pub verdict-refused : (number line : ℕ) → (verdict limits sheet space ≡ refused number line) ↔ First (allChecks limits sheet space) number line
+  unfolding verdict
+  verdict-refused = refused-iff (allChecks limits sheet space)
 
--- ---- where all checks pass, the last one does not apply, so the report fits into its space
+  -- no sheet is without a verdict
+  pub verdict-given : All Passes (allChecks limits sheet space) ⊎ ((number line : ℕ) × First (allChecks limits sheet space) number line)
+  verdict-given = decided (allChecks limits sheet space)
 
-rest-accepted : (applies : Bool) (number line : ℕ) (rest : Verdict) → cond applies (refused number line) rest ≡ accepted
-    → (applies ≡ false) × (rest ≡ accepted)
-rest-accepted true number line rest e = absurd (let z : _≡_ {A = ℕ} 0 1 = cc in omega arith)
-rest-accepted false number line rest e = (refl, e)
+  -- ---- the outcome of each verdict
 
-last-passed : (cs : List Check) (c : Check) → firstOf (cs ++ (c ∷ [])) ≡ accepted → c .applies ≡ false
-unfolding firstOf
-last-passed [] c e = rest-accepted (c .applies) (c .number) (c .line) accepted e .0
-last-passed (d ∷ cs) c e = last-passed cs c (rest-accepted (d .applies) (d .number) (d .line) (firstOf (cs ++ (c ∷ []))) e .1)
+  pub refused-untouched : (number line : ℕ) → verdict limits sheet space ≡ refused number line
+      → outcome limits sheet space ≡ record { number = number; line = line; length = 0; space = space }
+  unfolding outcome
+  refused-untouched number line e = rw e
 
-pub report-fits : (limits : Limits) (sheet space : List ℕ) → verdict limits sheet space ≡ accepted
-    → length (sheetReport sheet) ≤ length space
-unfolding verdict allChecks
-report-fits limits sheet space e =
-    ltb-false (length space) (length (sheetReport sheet))
-    (last-passed (reckonerChecks limits sheet) (check 16 0 (spaceTooShort sheet space)) e)
+  pub accepted-written : verdict limits sheet space ≡ accepted
+      → outcome limits sheet space
+      ≡ record { number = 0; line = 0; length = length (sheetReport sheet); space = sheetReport sheet ++ drop (length (sheetReport sheet)) space }
+  unfolding outcome
+  accepted-written e = rw e
 
--- ---- the space keeps its length
+  -- ---- an accepted sheet passes 16, 15 and the rest
 
-pub space-kept : (limits : Limits) (sheet space : List ℕ) → length (outcome limits sheet space .space) ≡ length space
-space-kept limits sheet space = go (verdict limits sheet space) refl
-  where
-    go : (v : Verdict) → verdict limits sheet space ≡ v → length (outcome limits sheet space .space) ≡ length space
-    go accepted e =
-        let fits = report-fits limits sheet space e in
-        rw (accepted-written limits sheet space e, length-append, length-drop) (omega arith)
-    go (refused number line) e = rw (refused-untouched limits sheet space number line e)
+  module _ (a : verdict limits sheet space ≡ accepted) where
+    pub report-fits : length (sheetReport sheet) ≤ length space
+    unfolding allChecks
+    report-fits =
+        ltb-false (length space) (length (sheetReport sheet))
+        (all-append Passes (reckonerChecks limits sheet) (check 16 0 (spaceTooShort sheet space) ∷ []) (verdict-accepted .0 a) .1 .0)
+
+    lines-passed : All Passes (sheetChecks limits sheet)
+    unfolding allChecks reckonerChecks
+    lines-passed =
+        let all-but-16 = all-append Passes (reckonerChecks limits sheet) (check 16 0 (spaceTooShort sheet space) ∷ []) (verdict-accepted .0 a) .0 in
+        all-append Passes (sheetChecks limits sheet) (check 15 0 (figureTooLarge (reckoning (recordsOf sheet))) ∷ []) all-but-16 .0
+
+    -- THE THIRD PROPERTY, of the report's totals
+    pub report-sum : pos (totalsOf sheet .left) ≡ totalsOf sheet .entered +ℤ pos (totalsOf sheet .raised) +ℤ pos (totalsOf sheet .uncredited)
+    report-sum = third-property limits sheet lines-passed
+
+    pub report-sum-exact : (pos (totalsOf sheet .left) ≡ totalsOf sheet .entered) ↔ NothingAdded (recordsOf sheet)
+    report-sum-exact = third-property-exact limits sheet lines-passed
+
+    pub report-sum-greater : ¬ NothingAdded (recordsOf sheet) → totalsOf sheet .entered <ℤ pos (totalsOf sheet .left)
+    report-sum-greater = third-property-greater limits sheet lines-passed
+
+  -- ---- the space keeps its length
+
+  pub space-kept : length (outcome limits sheet space .space) ≡ length space
+  space-kept = go (verdict limits sheet space) refl
+    where
+      go : (v : Verdict) → verdict limits sheet space ≡ v → length (outcome limits sheet space .space) ≡ length space
+      go accepted e =
+          let fits = report-fits e in
+          rw (accepted-written e, length-append, length-drop) (omega arith)
+      go (refused number line) e = rw (refused-untouched number line e)

@@ -3,3 +3,4 @@ pub mod Examples
 pub mod First
 pub mod Accepted
 pub mod OneRecord
+pub mod OneSheet

@@ -35,14 +35,7 @@ allPlain (f ∷ fs) = plain f && allPlain fs
 
 -- one of the seven kinds
 abbrev pub known : Kind → Bool
-known Process = true
-known SourceStream = true
-known Heat = true
-known WasteGas = true
-known Power = true
-known BoughtPrecursor = true
-known OwnGood = true
-known Unknown = false
+known k = not (eqb (letter k) (letter Unknown))
 
 abbrev pub readable : Record → Bool
 readable r = known (r .kind) && allPlain (r .said)

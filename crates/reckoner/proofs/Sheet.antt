@@ -1,0 +1,40 @@
+-- The theorems of the sum, for the totals of every sheet by which no row 1 to 14 applies. Assumes nothing.
+use mathlib.Core.Path.{_≡_}
+use mathlib.Core.Logic.{_↔_}
+use mathlib.Core.List.{List}
+use Prim.Native.Nat.{ℕ}
+use lib.IntN.{ℤ, pos, _+ℤ_}
+use lib.Signed.{_<ℤ_}
+use Rattle.sheet.specs.Limits.{Limits}
+use Rattle.sheet.specs.Records.{recordsOf}
+use Rattle.sheet.specs.Verdict.{sheetChecks}
+use Rattle.sheet.proofs.First.{All, Passes}
+use Rattle.sheet.proofs.Accepted.{sheet-fine}
+use Rattle.reckoner.specs.Reckoning.{Totals, Reckoning, reckoning}
+use Rattle.reckoner.proofs.Accepted.{Accepted, sheet-accepted}
+use Rattle.reckoner.proofs.Works.{left-is-entered-raised-uncredited}
+use Rattle.reckoner.proofs.Exact.{NothingAdded, left-equals-entered, otherwise-greater}
+
+-- the totals of a sheet
+abbrev pub totalsOf : (sheet : List ℕ) → Totals
+totalsOf sheet = reckoning (recordsOf sheet) .totals
+
+module _ (limits : Limits) (sheet : List ℕ) (passed : All Passes (sheetChecks limits sheet)) where
+  ok : Accepted (recordsOf sheet)
+  ok = sheet-accepted limits sheet (sheet-fine limits sheet passed)
+
+  -- left = entered + raised + uncredited
+  pub third-property : pos (totalsOf sheet .left)
+      ≡ totalsOf sheet .entered +ℤ pos (totalsOf sheet .raised) +ℤ pos (totalsOf sheet .uncredited)
+  unfolding reckoning
+  third-property = left-is-entered-raised-uncredited (recordsOf sheet) ok
+
+  -- left equals entered exactly when no process balance is below zero and no waste gas passed between two processes
+  pub third-property-exact : (pos (totalsOf sheet .left) ≡ totalsOf sheet .entered) ↔ NothingAdded (recordsOf sheet)
+  unfolding reckoning
+  third-property-exact = left-equals-entered (recordsOf sheet) ok
+
+  -- otherwise left is greater
+  pub third-property-greater : ¬ NothingAdded (recordsOf sheet) → totalsOf sheet .entered <ℤ pos (totalsOf sheet .left)
+  unfolding reckoning
+  third-property-greater = otherwise-greater (recordsOf sheet) ok
