@@ -1,4 +1,5 @@
 -- Laws that the crates above cite.
+pub mod Cases
 pub mod Bools
 pub mod Spelling
 pub mod OneSpelling

@@ -14,25 +14,6 @@ use Rattle.decimal.specs.Spelling.{spelling}
 use Rattle.decimal.proofs.Bools.{never, and-both}
 use Rattle.decimal.proofs.Spelling.{spell-one, spell-more, spelling-digits, spelling-value, spelling-some, spelling-first}
 
--- ---- a spelling is a number of the sheet
-
-number-many : (s : List ℕ) → 2 ≤ length s → (getD s 0 0 ≡ 48 → ⊥) → allDigits s ≡ true → isNumber s ≡ true
-unfolding isNumber
-number-many [] h k d = absurd (omega arith)
-number-many (b ∷ []) h k d = absurd (omega arith)
-number-many (b ∷ c ∷ s) h k d = rw (ne-eqb b 48 k) d
-
-pub spelling-number : (n : ℕ) → isNumber (spelling n) ≡ true
-unfolding isNumber allDigits
-spelling-number n =
-    elim (decLe 10 n) [
-      | yes h ↦ number-many (spelling n) (two h) (spelling-first n (omega arith)) (spelling-digits n)
-      | no h ↦ rw (spell-one n (lt-of-not-le h)) (and-both (isDigit (48 + n)) true (rw (spell-one n (lt-of-not-le h)) at (spelling-digits n)) .0)
-    ]
-  where
-    two : 10 ≤ n → 2 ≤ length (spelling n)
-    two h = rw (spell-more n h, length-append) (let k = spelling-some (n / 10) in omega arith)
-
 -- ---- a number of the sheet is its value's spelling
 
 spell-on : (n : ℕ) (bs : List ℕ) → 1 ≤ n → allDigits bs ≡ true → spelling (valueFrom n bs) ≡ spelling n ++ bs
@@ -70,6 +51,25 @@ number-spelling (b ∷ c ∷ bs) h =
     let lo = leb-true 48 b (r .0) in
     let ne = eqb-false b 48 (not-true (eqb b 48) (q .0)) in
     spell-on (0 * 10 + (b - 48)) (c ∷ bs) (omega arith) (p .1) ∙ ap (λ (l : List ℕ). l ++ (c ∷ bs)) (digit-spelt b (p .0))
+
+-- ---- a spelling is a number of the sheet
+
+number-many : (s : List ℕ) → 2 ≤ length s → (getD s 0 0 ≡ 48 → ⊥) → allDigits s ≡ true → isNumber s ≡ true
+unfolding isNumber
+number-many [] h k d = absurd (omega arith)
+number-many (b ∷ []) h k d = absurd (omega arith)
+number-many (b ∷ c ∷ s) h k d = rw (ne-eqb b 48 k) d
+
+pub spelling-number : (n : ℕ) → isNumber (spelling n) ≡ true
+unfolding isNumber allDigits
+spelling-number n =
+    elim (decLe 10 n) [
+      | yes h ↦ number-many (spelling n) (two h) (spelling-first n (omega arith)) (spelling-digits n)
+      | no h ↦ rw (spell-one n (lt-of-not-le h)) (and-both (isDigit (48 + n)) true (rw (spell-one n (lt-of-not-le h)) at (spelling-digits n)) .0)
+    ]
+  where
+    two : 10 ≤ n → 2 ≤ length (spelling n)
+    two h = rw (spell-more n h, length-append) (let k = spelling-some (n / 10) in omega arith)
 
 -- ---- one spelling a number, one number a spelling
 

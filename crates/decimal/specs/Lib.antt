@@ -2,3 +2,4 @@
 pub mod Number
 pub mod Spelling
 pub mod Text
+pub mod Cases

@@ -1,4 +1,4 @@
 -- Laws that the crates above cite.
+pub mod Cases
 pub mod Rounding
 pub mod Weights
-pub mod Examples

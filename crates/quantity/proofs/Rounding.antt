@@ -3,7 +3,7 @@ use mathlib.Core.Path.{_≡_, refl}
 use Prim.Native.Nat.{ℕ, _+_, _*_, _/_, _≤_, _<_}
 use native.Mathlib.Nat.{mul-le-mul, le-trans}
 use native.Mathlib.Omega.{arith}
-use Rattle.quantity.specs.Rounding.{round, thousandths, tenThousandths}
+use Rattle.quantity.specs.Rounding.{round}
 
 -- exact on multiples
 pub thousandths-exact : (n : ℕ) → round (n * 1000) 1000 ≡ n

@@ -3,4 +3,4 @@ pub mod Rounding
 pub mod Streams
 pub mod Standard
 pub mod Weights
-pub mod Examples
+pub mod Cases

@@ -22,7 +22,7 @@ use Rattle.reckoner.specs.Reckoning.{processCount, totalLeft, entered, t
 use Rattle.reckoner.proofs.Differences.{diff, diff-pos, diff-eq, diff-inj, diff-ge, diff-lt}
 use Rattle.reckoner.proofs.Sums.{sum-zero-at, sum-zero-all}
 use Rattle.reckoner.proofs.Entries.{recordIs, entry, Valid, figures, entered-is}
-use Rattle.reckoner.proofs.Accepted.{Accepted}
+use Rattle.reckoner.proofs.Valid.{Accepted}
 use Rattle.reckoner.proofs.Works.{conserved}
 
 -- ---- the condition

@@ -1,10 +1,11 @@
 -- Laws that the crates above cite.
+pub mod Cases
 pub mod Differences
 pub mod Sums
 pub mod Portions
 pub mod Pools
 pub mod Entries
-pub mod Accepted
+pub mod Valid
 pub mod Works
 pub mod Exact
 pub mod Sheet

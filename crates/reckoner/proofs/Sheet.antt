@@ -9,9 +9,9 @@ use Rattle.sheet.specs.Limits.{Limits}
 use Rattle.sheet.specs.Records.{recordsOf}
 use Rattle.sheet.specs.Verdict.{sheetChecks}
 use Rattle.sheet.proofs.First.{All, Passes}
-use Rattle.sheet.proofs.Accepted.{sheet-fine}
+use Rattle.sheet.proofs.Passed.{sheet-fine}
 use Rattle.reckoner.specs.Reckoning.{Totals, Reckoning, reckoning}
-use Rattle.reckoner.proofs.Accepted.{Accepted, sheet-accepted}
+use Rattle.reckoner.proofs.Valid.{Accepted, sheet-accepted}
 use Rattle.reckoner.proofs.Works.{left-is-entered-raised-uncredited}
 use Rattle.reckoner.proofs.Exact.{NothingAdded, left-equals-entered, otherwise-greater}
 

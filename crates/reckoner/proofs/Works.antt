@@ -20,7 +20,7 @@ use Rattle.reckoner.proofs.Differences.{diff, diff-pos, diff-plus, diff
 use Rattle.reckoner.proofs.Sums.{sum-add, sum-ext, sum-swap, sum-zero-at, sum-zero-all, at-sum}
 use Rattle.reckoner.proofs.Pools.{left-sum}
 use Rattle.reckoner.proofs.Entries.{Entry, entry, plus, minus, Valid, Even, valid-even, Figures, figures, balance-is, entered-is, forward}
-use Rattle.reckoner.proofs.Accepted.{Accepted}
+use Rattle.reckoner.proofs.Valid.{Accepted}
 
 -- ---- raising: direct + what is taken = raised + what is added
 

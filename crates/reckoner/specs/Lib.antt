@@ -4,3 +4,4 @@ pub mod Attribution
 pub mod Goods
 pub mod Reckoning
 pub mod Verdict
+pub mod Cases

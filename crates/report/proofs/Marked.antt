@@ -1,12 +1,14 @@
--- The marked cases of document 01. Assumes nothing.
+-- The marked cases of document 01: one theorem that the checker computes over the table. Assumes nothing.
+use mathlib.Core.List.{map}
 use mathlib.Core.Path.{_≡_, refl}
-use mathlib.Core.List.{List, map}
-use Rattle.decimal.specs.Number.{allDigits, isNumber, valueFrom}
-use Rattle.decimal.specs.Spelling.{digits, spelling}
 use Rattle.quantity.specs.Rounding.{round}
-use Rattle.quantity.specs.Streams.{fossilGrams, combustionGrams, processGrams, carbonGrams, streamGrams}
+use Rattle.quantity.specs.Streams.{combustionGrams, processGrams, carbonGrams, streamGrams, fossilGrams}
 use Rattle.quantity.specs.Standard.{fuels, carbonates, fuelOf, carbonateOf}
 use Rattle.quantity.specs.Weights.{weight, wasteGasCharge, wasteGasCredit}
+use Rattle.reckoner.specs.Goods.{takers, portion, left, totalKilos, portionOf, portionsTaken, poolsTo, poolOf, leftOf}
+use Rattle.report.specs.Outcome.{carbon, sheetReport}
+use Rattle.decimal.specs.Number.{allDigits, isNumber, valueFrom}
+use Rattle.decimal.specs.Spelling.{digits, spelling}
 use Rattle.sheet.specs.Lines.{linesOf, fieldsOf}
 use Rattle.sheet.specs.Records.{fieldOf, recordOf, recordsOf}
 use Rattle.sheet.specs.Kinds.{methodRules, rules}
@@ -14,13 +16,11 @@ use Rattle.sheet.specs.Refusals.{anyOf, sumOf}
 use Rattle.sheet.specs.Verdict.{firstOf, fieldChecks, lineChecks, linesChecks, sheetChecks}
 use Rattle.reckoner.specs.Sums.{sumTo, sumOfℤ, onlyAt}
 use Rattle.reckoner.specs.Attribution.{streamOf, heatOf, chargeOf, creditOf, powerOf, boughtDirectOf, boughtIndirectOf, streams, heatIn, heatOut, gasCharged, gasCredited, powerIn, powerOut, boughtDirect, boughtIndirect, balance, raised, direct, indirect}
-use Rattle.reckoner.specs.Goods.{takers, totalKilos, portion, left, portionOf, portionsTaken, poolsTo, poolOf, leftOf}
 use Rattle.reckoner.specs.Reckoning.{kilosOf, processCount, output, kilosBetween, directPool, indirectPool, directLeft, indirectLeft, totalLeft, entered, totalRaised, uncredited, rowsTo, reckoning}
 use Rattle.reckoner.specs.Verdict.{rowsGrams, anyFrom, figureTooLarge, reckonerChecks}
 use Rattle.report.specs.Report.{specific, reportOf}
 use Rattle.report.specs.Spelling.{threeDigits, spellFigure, spellFigures, spellLines, rowLine, totalLine, reportBytes}
-use Rattle.report.specs.Outcome.{sheetReport, carbon}
-use Rattle.report.specs.Marked.{Case, marked}
+use Rattle.report.specs.Marked.{marked}
 
 pub marked-hold : map (λ c. c .found) marked ≡ map (λ c. c .expected) marked
 unfolding marked

@@ -3,3 +3,4 @@ pub mod Report
 pub mod Spelling
 pub mod Outcome
 pub mod Marked
+pub mod Cases

@@ -1,15 +1,14 @@
--- Document 01, "What the contracts say", d: the marked cases, one table. proofs/Marked has the one theorem that the checker computes over it.
-use mathlib.Core.List.{List, [], _∷_, _++_}
+-- Document 01, "What the contracts say", d: the marked cases, one table.
+use mathlib.Core.List.{List, [], _∷_}
 use Prim.Native.Nat.{ℕ}
 use Prim.Native.String.{String}
-use lib.IntN.{ℤ, pos, natAbs}
 use Rattle.decimal.specs.Text.{bytes}
 use Rattle.quantity.specs.Rounding.{round}
-use Rattle.quantity.specs.Streams.{combustionGrams, processGrams, carbonGrams, streamGrams}
+use Rattle.quantity.specs.Streams.{combustionGrams, processGrams, carbonGrams}
 use Rattle.quantity.specs.Standard.{standardA, standardB}
 use Rattle.quantity.specs.Weights.{weight, wasteGasCharge, wasteGasCredit}
 use Rattle.sheet.specs.Limits.{limits}
-use Rattle.reckoner.specs.Goods.{Taker, taker, takers, portion, left}
+use Rattle.reckoner.specs.Goods.{Taker, taker, portion, left}
 use Rattle.report.specs.Outcome.{carbon}
 
 -- numbers or bytes that the definitions give, and those that document 01 prints

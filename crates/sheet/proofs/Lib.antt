@@ -1,6 +1,6 @@
 -- Laws that the crates above cite.
-pub mod Examples
+pub mod Cases
 pub mod First
-pub mod Accepted
+pub mod Passed
 pub mod OneRecord
 pub mod OneSheet

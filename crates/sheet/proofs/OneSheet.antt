@@ -13,7 +13,7 @@ use Rattle.sheet.specs.Kinds.{Rule}
 use Rattle.sheet.specs.Verdict.{accepted, firstOf, fieldChecks, sheetChecks}
 use Rattle.sheet.specs.Spelling.{spellSheet}
 use Rattle.sheet.proofs.First.{All, Passes, accepted-passes}
-use Rattle.sheet.proofs.Accepted.{AllFine, sheet-fine}
+use Rattle.sheet.proofs.Passed.{AllFine, sheet-fine}
 use Rattle.sheet.proofs.OneRecord.{allPlain, allRead, spell-sheet}
 
 module _ (limits : Limits) where

@@ -6,4 +6,4 @@ pub mod Kinds
 pub mod Refusals
 pub mod Verdict
 pub mod Spelling
-pub mod Examples
+pub mod Cases

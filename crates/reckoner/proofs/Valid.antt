@@ -20,7 +20,7 @@ use Rattle.sheet.specs.Verdict.{fieldChecks}
 use Rattle.sheet.specs.declared.Kind.{Kind}
 use Rattle.sheet.specs.declared.Kind.the-variants.{Process, SourceStream, Heat, WasteGas, Power, BoughtPrecursor, OwnGood, Unknown}
 use Rattle.sheet.proofs.First.{All, Passes}
-use Rattle.sheet.proofs.Accepted.{Fine, AllFine, FineSheet, fields-in-range}
+use Rattle.sheet.proofs.Passed.{Fine, AllFine, FineSheet, fields-in-range}
 use Rattle.reckoner.specs.Sums.{sumTo, onlyAt}
 use Rattle.reckoner.specs.Reckoning.{kilosOf, processCount, output, kilosBetween}
 use Rattle.reckoner.proofs.Sums.{sum-swap, sum-ext, sum-none, of-le, at-sum-le}

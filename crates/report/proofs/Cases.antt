@@ -1,0 +1,51 @@
+-- The worked examples of specs/Cases: one theorem that the checker computes over each table. Assumes nothing.
+use mathlib.Core.List.{map}
+use mathlib.Core.Path.{_≡_, refl}
+use Rattle.quantity.specs.Rounding.{round}
+use Rattle.quantity.specs.Streams.{combustionGrams, processGrams, carbonGrams, streamGrams, fossilGrams}
+use Rattle.quantity.specs.Standard.{fuels, carbonates, fuelOf, carbonateOf}
+use Rattle.quantity.specs.Weights.{weight, wasteGasCharge, wasteGasCredit}
+use Rattle.reckoner.specs.Goods.{takers, portion, left, totalKilos, portionOf, portionsTaken, poolsTo, poolOf, leftOf}
+use Rattle.report.specs.Outcome.{allChecks, verdict, outcome, carbon, sheetReport}
+use Rattle.decimal.specs.Number.{allDigits, isNumber, valueFrom}
+use Rattle.decimal.specs.Spelling.{digits, spelling}
+use Rattle.sheet.specs.Lines.{linesOf, fieldsOf}
+use Rattle.sheet.specs.Records.{fieldOf, recordOf, recordsOf}
+use Rattle.sheet.specs.Kinds.{methodRules, rules}
+use Rattle.sheet.specs.Refusals.{anyOf, sumOf}
+use Rattle.sheet.specs.Verdict.{firstOf, fieldChecks, lineChecks, linesChecks, sheetChecks}
+use Rattle.reckoner.specs.Sums.{sumTo, sumOfℤ, onlyAt}
+use Rattle.reckoner.specs.Attribution.{streamOf, heatOf, chargeOf, creditOf, powerOf, boughtDirectOf, boughtIndirectOf, streams, heatIn, heatOut, gasCharged, gasCredited, powerIn, powerOut, boughtDirect, boughtIndirect, balance, raised, direct, indirect}
+use Rattle.reckoner.specs.Reckoning.{kilosOf, processCount, output, kilosBetween, directPool, indirectPool, directLeft, indirectLeft, totalLeft, entered, totalRaised, uncredited, rowsTo, reckoning}
+use Rattle.reckoner.specs.Verdict.{rowsGrams, anyFrom, figureTooLarge, reckonerChecks}
+use Rattle.report.specs.Report.{specific, reportOf}
+use Rattle.report.specs.Spelling.{threeDigits, spellFigure, spellFigures, spellLines, rowLine, totalLine, reportBytes}
+use Rattle.report.specs.Cases.{printed, given}
+use Rattle.decimal.specs.Text.{bytes}
+use Rattle.sheet.specs.Limits.{limits}
+
+pub printed-hold : map (λ p. carbon limits (bytes (p .sheet))) printed ≡ map (λ p. bytes (p .text)) printed
+unfolding printed
+    allDigits isNumber valueFrom digits spelling
+    round fossilGrams combustionGrams processGrams carbonGrams streamGrams fuels carbonates fuelOf carbonateOf weight wasteGasCharge wasteGasCredit
+    linesOf fieldsOf fieldOf recordOf recordsOf methodRules rules anyOf sumOf firstOf fieldChecks lineChecks linesChecks sheetChecks
+    sumTo sumOfℤ onlyAt streamOf heatOf chargeOf creditOf powerOf boughtDirectOf boughtIndirectOf
+    streams heatIn heatOut gasCharged gasCredited powerIn powerOut boughtDirect boughtIndirect balance raised direct indirect
+    takers totalKilos portion left portionOf portionsTaken poolsTo poolOf leftOf
+    kilosOf processCount output kilosBetween directPool indirectPool directLeft indirectLeft totalLeft entered totalRaised uncredited rowsTo reckoning
+    rowsGrams anyFrom figureTooLarge reckonerChecks
+    specific reportOf threeDigits spellFigure spellFigures spellLines rowLine totalLine reportBytes sheetReport carbon
+printed-hold = refl
+
+pub given-hold : map (λ g. outcome limits (bytes (g .sheet)) (bytes (g .space))) given ≡ map (λ g. g .outcome) given
+unfolding given allChecks verdict outcome
+    allDigits isNumber valueFrom digits spelling
+    round fossilGrams combustionGrams processGrams carbonGrams streamGrams fuels carbonates fuelOf carbonateOf weight wasteGasCharge wasteGasCredit
+    linesOf fieldsOf fieldOf recordOf recordsOf methodRules rules anyOf sumOf firstOf fieldChecks lineChecks linesChecks sheetChecks
+    sumTo sumOfℤ onlyAt streamOf heatOf chargeOf creditOf powerOf boughtDirectOf boughtIndirectOf
+    streams heatIn heatOut gasCharged gasCredited powerIn powerOut boughtDirect boughtIndirect balance raised direct indirect
+    takers totalKilos portion left portionOf portionsTaken poolsTo poolOf leftOf
+    kilosOf processCount output kilosBetween directPool indirectPool directLeft indirectLeft totalLeft entered totalRaised uncredited rowsTo reckoning
+    rowsGrams anyFrom figureTooLarge reckonerChecks
+    specific reportOf threeDigits spellFigure spellFigures spellLines rowLine totalLine reportBytes sheetReport carbon
+given-hold = refl
