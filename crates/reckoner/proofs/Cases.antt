@@ -1,7 +1,7 @@
 -- The worked examples of specs/Cases: one theorem that the checker computes over the table. Assumes nothing.
 use mathlib.Core.List.{map}
 use mathlib.Core.Path.{_≡_, refl}
-use Rattle.sheet.specs.Records.{recordsOf, fieldOf, recordOf}
+use Rattle.lines.specs.Records.{recordsOf, fieldOf, recordOf}
 use Rattle.reckoner.specs.Reckoning.{reckoning, kilosOf, processCount, output, kilosBetween, directPool, indirectPool, directLeft, indirectLeft, totalLeft, entered, totalRaised, uncredited, rowsTo}
 use Rattle.reckoner.specs.Verdict.{rowsGrams}
 use Rattle.decimal.specs.Number.{allDigits, isNumber, valueFrom}
@@ -9,7 +9,7 @@ use Rattle.quantity.specs.Rounding.{round}
 use Rattle.quantity.specs.Streams.{fossilGrams, combustionGrams, processGrams, carbonGrams, streamGrams}
 use Rattle.quantity.specs.Standard.{fuels, carbonates, fuelOf, carbonateOf}
 use Rattle.quantity.specs.Weights.{weight, wasteGasCharge, wasteGasCredit}
-use Rattle.sheet.specs.Lines.{linesOf, fieldsOf}
+use Rattle.lines.specs.Lines.{linesOf, fieldsOf}
 use Rattle.sheet.specs.Refusals.{sumOf}
 use Rattle.reckoner.specs.Sums.{sumTo, sumOfℤ, onlyAt}
 use Rattle.reckoner.specs.Attribution.{streamOf, heatOf, chargeOf, creditOf, powerOf, boughtDirectOf, boughtIndirectOf, streams, heatIn, heatOut, gasCharged, gasCredited, powerIn, powerOut, boughtDirect, boughtIndirect, balance, raised, direct, indirect}

@@ -1,26 +1,25 @@
 -- Double entry. Each line becomes one entry; the figures of document 01 are sums over entries, and an entry of a valid line is even: what it
 -- puts into processes and sends out of the works is what it takes from processes, what enters the works and what stays uncredited.
 -- A further kind of line is one row of `entryOf`, one clause of `Valid` and one clause of `even`. Assumes nothing.
-use mathlib.Core.Path.{_≡_, refl, sym, ap, ap₂, _∙_}
+use mathlib.Core.Path.{_≡_, refl, sym, ap₂, _∙_}
 use mathlib.Core.Bool.{Bool, true, false, cond, _||_}
 use mathlib.Core.List.{List, [], _∷_}
-use Prim.Native.Nat.{ℕ, zero, suc, _+_, _-_, _≤_, _<_}
+use Prim.Native.Nat.{ℕ, _+_, _-_, _≤_, _<_}
 use native.Mathlib.Omega.{arith}
 use lib.Dec.{eqb}
-use lib.IntN.{ℤ, pos, negsuc, _+ℤ_, _-ℤ_}
+use lib.IntN.{ℤ, pos}
 use borrow.Author.Tests.{eqb-true, eqb-false}
-use Rattle.quantity.specs.Weights.{wasteGasCharge, wasteGasCredit}
 use Rattle.quantity.proofs.Weights.{credit-below-charge}
-use Rattle.sheet.specs.Records.{Field, Record, numberAt}
+use Rattle.lines.specs.Records.{Field, Record, numberAt}
 use Rattle.sheet.specs.Refusals.{sumOf, process, from, to}
-use Rattle.sheet.specs.declared.Kind.{Kind}
-use Rattle.sheet.specs.declared.Kind.the-variants.{Process, SourceStream, Heat, WasteGas, Power, BoughtPrecursor, OwnGood, Unknown}
+use Rattle.lines.specs.declared.Kind.{Kind}
+use Rattle.lines.specs.declared.Kind.the-variants.{Process, SourceStream, Heat, WasteGas, Power, BoughtPrecursor, OwnGood, Unknown}
 use Rattle.sheet.proofs.First.{All}
-use Rattle.reckoner.specs.Sums.{sumTo, sumOfℤ, onlyAt}
+use Rattle.reckoner.specs.Sums.{onlyAt}
 use Rattle.reckoner.specs.Attribution.{streamOf, heatOf, chargeOf, creditOf, powerOf, boughtDirectOf, boughtIndirectOf, streams, heatIn, heatOut, gasCharged, gasCredited, powerIn, powerOut, boughtDirect, boughtIndirect, raisedToZero, gramsAdded, balance, indirect}
 use Rattle.reckoner.specs.Reckoning.{kilosOf, kilosBetween, entered, uncredited}
 use Rattle.reckoner.proofs.Differences.{diff, diff-plus, diff-minus}
-use Rattle.reckoner.proofs.Sums.{of-add, of-ext, ofℤ-diff, at-same, at-other, at-le, at-none, at-outside}
+use Rattle.reckoner.proofs.Sums.{ofℤ-diff, at-other, at-le, at-none, at-outside}
 
 -- process 0 is outside the works
 pub record Entry : Type 0 where

@@ -4,7 +4,7 @@ use mathlib.Core.Path.{_≡_, refl, sym, _∙_}
 use mathlib.Core.Logic.{_↔_}
 use mathlib.Core.Bool.{Bool, true, false, cond, _||_}
 use mathlib.Core.List.{List, [], _∷_}
-use Prim.Native.Nat.{ℕ, zero, suc, _+_, _-_, _≤_, _<_}
+use Prim.Native.Nat.{ℕ, suc, _+_, _-_, _≤_, _<_}
 use native.Mathlib.Omega.{arith}
 use lib.Dec.{eqb, ltb, le→leb, lt→ltb}
 use lib.IntN.{ℤ, pos, negsuc}
@@ -12,10 +12,10 @@ use lib.Signed.{_≤ℤ_, _<ℤ_}
 use borrow.Author.Tests.{eqb-true, eqb-false, ltb-true, ltb-false}
 use Rattle.quantity.proofs.Weights.{credit-below-charge}
 use Rattle.decimal.proofs.Bools.{never}
-use Rattle.sheet.specs.Records.{Field, Record, numberAt, is}
+use Rattle.lines.specs.Records.{Field, Record, numberAt, is}
 use Rattle.sheet.specs.Refusals.{sumOf, from, to}
-use Rattle.sheet.specs.declared.Kind.{Kind}
-use Rattle.sheet.specs.declared.Kind.the-variants.{Process, SourceStream, Heat, WasteGas, Power, BoughtPrecursor, OwnGood, Unknown}
+use Rattle.lines.specs.declared.Kind.{Kind}
+use Rattle.lines.specs.declared.Kind.the-variants.{Process, SourceStream, Heat, WasteGas, Power, BoughtPrecursor, OwnGood, Unknown}
 use Rattle.sheet.proofs.First.{All}
 use Rattle.reckoner.specs.Attribution.{chargeOf, creditOf, gramsAdded, balance, raised}
 use Rattle.reckoner.specs.Reckoning.{processCount, totalLeft, entered, totalRaised, uncredited}

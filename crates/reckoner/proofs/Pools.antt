@@ -1,14 +1,13 @@
 -- Pools of a works of n processes: the paper's equation, the walk from process to process, and that what is left in all pools is what went
 -- into them. For any number of processes. Assumes nothing.
-use mathlib.Core.Path.{_≡_, refl, sym, ap, ap₂, _∙_}
-use mathlib.Core.List.{List, [], _∷_}
-use Prim.Native.Nat.{ℕ, zero, suc, _+_, _*_, _-_, _/_, _≤_, _<_}
+use mathlib.Core.Path.{_≡_, refl, sym, ap, _∙_}
+use Prim.Native.Nat.{ℕ, zero, suc, _+_, _-_, _≤_}
 use native.Mathlib.Omega.{arith}
 use native.Mathlib.Nat.{mul-zero, zero-div, mul-le-mul-left, le-trans, le-refl}
-use lib.ListN.{length, getD}
+use lib.ListN.{length}
 use Rattle.reckoner.specs.Sums.{sumTo}
 use Rattle.reckoner.specs.Goods.{takers, portionOf, portionsTaken, poolsTo, poolOf, left, leftOf}
-use Rattle.reckoner.proofs.Sums.{sum-add, sum-ext, sum-cong, sum-le, sum-mono}
+use Rattle.reckoner.proofs.Sums.{sum-add, sum-ext, sum-le, sum-mono}
 use Rattle.reckoner.proofs.Portions.{div-mono, given-le, givenTo, portionTo, takers-kilos, portion-is}
 
 -- ---- what is given of one pool, process by process

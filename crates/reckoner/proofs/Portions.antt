@@ -7,9 +7,8 @@ use mathlib.Core.List.{List, [], _∷_, _++_, append-nil}
 use Prim.Native.Nat.{ℕ, zero, suc, _+_, _*_, _-_, _/_, _≤_, _<_}
 use native.Mathlib.Omega.{arith}
 use native.Mathlib.Nat.{mul-zero, zero-div, div-le-of-le-mul, mul-le-mul-left, mul-comm, le-div-iff-mul-le, div-mul-le-self, eq-zero-or-pos, div-zero, le-trans, le-refl}
-use native.Mathlib.Numerals.{add-one}
 use lib.Dec.{eqb}
-use lib.ListN.{length, getD, take, length-append, List·getD-append}
+use lib.ListN.{length, take, length-append, List·getD-append}
 use lib.Seq.{take-append-le, take-append-seam, take-all, take-length, getD-append-seam}
 use borrow.Author.Tests.{eqb-true, eqb-false}
 use Rattle.reckoner.specs.Sums.{sumTo, onlyAt}

@@ -3,14 +3,14 @@ use mathlib.Core.Path.{_≡_}
 use mathlib.Core.Logic.{_↔_}
 use mathlib.Core.List.{List}
 use Prim.Native.Nat.{ℕ}
-use lib.IntN.{ℤ, pos, _+ℤ_}
+use lib.IntN.{pos, _+ℤ_}
 use lib.Signed.{_<ℤ_}
 use Rattle.sheet.specs.Limits.{Limits}
-use Rattle.sheet.specs.Records.{recordsOf}
+use Rattle.lines.specs.Records.{recordsOf}
 use Rattle.sheet.specs.Verdict.{sheetChecks}
 use Rattle.sheet.proofs.First.{All, Passes}
 use Rattle.sheet.proofs.Passed.{sheet-fine}
-use Rattle.reckoner.specs.Reckoning.{Totals, Reckoning, reckoning}
+use Rattle.reckoner.specs.Reckoning.{Totals, reckoning}
 use Rattle.reckoner.proofs.Valid.{Accepted, sheet-accepted}
 use Rattle.reckoner.proofs.Works.{left-is-entered-raised-uncredited}
 use Rattle.reckoner.proofs.Exact.{NothingAdded, left-equals-entered, otherwise-greater}

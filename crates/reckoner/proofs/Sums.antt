@@ -2,14 +2,14 @@
 use mathlib.Core.Path.{_≡_, refl, sym, ap, ap₂, _∙_}
 use mathlib.Core.Bool.{Bool, true, false, cond}
 use mathlib.Core.List.{List, [], _∷_}
-use Prim.Native.Nat.{ℕ, zero, suc, _+_, _-_, _≤_, _<_}
+use Prim.Native.Nat.{ℕ, zero, suc, _+_, _≤_, _<_}
 use native.Mathlib.Omega.{arith}
 use native.Mathlib.Decide.{le-ind, decLe}
 use native.Mathlib.Nat.{le-refl, lt-of-not-le}
 use lib.Dec.{eqb}
-use lib.IntN.{ℤ, pos, _+ℤ_}
+use lib.IntN.{ℤ, _+ℤ_}
 use borrow.Author.Tests.{eqb-true, eqb-false, eq-eqb, ne-eqb}
-use Rattle.sheet.specs.Records.{Record}
+use Rattle.lines.specs.Records.{Record}
 use Rattle.sheet.specs.Refusals.{sumOf}
 use Rattle.reckoner.specs.Sums.{sumTo, sumOfℤ, onlyAt}
 use Rattle.reckoner.specs.Attribution.{raisedToZero, gramsAdded}

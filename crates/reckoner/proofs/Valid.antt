@@ -1,30 +1,28 @@
 -- What an accepted sheet gives the reckoner: every line is valid, and no more is taken of a good than its output. Assumes nothing.
-use mathlib.Core.Path.{_≡_, refl, sym, ap, _∙_}
+use mathlib.Core.Path.{_≡_, refl, sym}
 use mathlib.Core.Logic.{_⊎_, inl, inr}
 use mathlib.Core.Bool.{Bool, true, false, cond, _&&_, _||_, not}
 use mathlib.Core.List.{List, [], _∷_, map}
-use Prim.Native.Nat.{ℕ, zero, suc, _+_, _-_, _≤_, _<_}
+use Prim.Native.Nat.{ℕ, suc, _+_, _≤_}
 use native.Mathlib.Omega.{arith}
-use native.Mathlib.Nat.{lt-of-not-le, le-refl}
-use native.Mathlib.Decide.{decLe}
 use lib.Dec.{eqb, ltb, leb}
-use lib.ListN.{length, getD}
-use borrow.Author.Tests.{eqb-true, eqb-false, ltb-true, ltb-false, leb-true, not-true, not-false}
+use lib.ListN.{length}
+use borrow.Author.Tests.{eqb-true, eqb-false, ltb-true, ltb-false, leb-true, not-false}
 use Rattle.decimal.proofs.Bools.{never, and-both, or-neither, or-either}
 use Rattle.sheet.specs.Limits.{Limits}
-use Rattle.sheet.specs.Lines.{Line, linesOf}
-use Rattle.sheet.specs.Records.{Field, other, Record, recordOf, recordsOf, numberAt, is}
+use Rattle.lines.specs.Lines.{Line, linesOf}
+use Rattle.lines.specs.Records.{Field, Record, recordOf, recordsOf, numberAt, is}
 use Rattle.sheet.specs.Kinds.{rules, rulesOf}
 use Rattle.sheet.specs.Refusals.{anyOf, sumOf, process, from, to, outputIn, takenIn, hasProcess, unknownKind, processNotNext, missingProcess, endsNotAllowed, outputExceeded}
 use Rattle.sheet.specs.Verdict.{fieldChecks}
-use Rattle.sheet.specs.declared.Kind.{Kind}
-use Rattle.sheet.specs.declared.Kind.the-variants.{Process, SourceStream, Heat, WasteGas, Power, BoughtPrecursor, OwnGood, Unknown}
+use Rattle.lines.specs.declared.Kind.{Kind}
+use Rattle.lines.specs.declared.Kind.the-variants.{Process, SourceStream, Heat, WasteGas, Power, BoughtPrecursor, OwnGood, Unknown}
 use Rattle.sheet.proofs.First.{All, Passes}
 use Rattle.sheet.proofs.Passed.{Fine, AllFine, FineSheet, fields-in-range}
 use Rattle.reckoner.specs.Sums.{sumTo, onlyAt}
 use Rattle.reckoner.specs.Reckoning.{kilosOf, processCount, output, kilosBetween}
-use Rattle.reckoner.proofs.Sums.{sum-swap, sum-ext, sum-none, of-le, at-sum-le}
-use Rattle.reckoner.proofs.Entries.{recordIs, ValidOf, Valid}
+use Rattle.reckoner.proofs.Sums.{sum-swap, sum-none, of-le, at-sum-le}
+use Rattle.reckoner.proofs.Entries.{recordIs, Valid}
 
 -- ---- processes are numbered 1 .. processCount
 

@@ -1,25 +1,21 @@
 -- THE SUM: left = entered + raised + uncredited on every accepted sheet, and when left equals entered. These do not pin the order of takers,
 -- nor that raising comes before precursors are added, nor where roundings stand: the definitions do, with the tables of examples.
 -- Assumes nothing.
-use mathlib.Core.Path.{_≡_, refl, sym, ap, ap₂, _∙_}
-use mathlib.Core.Logic.{_↔_}
-use mathlib.Core.Bool.{Bool, true, false, cond, _||_}
+use mathlib.Core.Path.{_≡_, refl, sym, ap, _∙_}
 use mathlib.Core.List.{List, [], _∷_}
-use Prim.Native.Nat.{ℕ, zero, suc, _+_, _-_, _≤_, _<_}
+use Prim.Native.Nat.{ℕ, _+_, _-_}
 use native.Mathlib.Omega.{arith}
-use lib.Dec.{eqb, le→leb}
-use lib.IntN.{ℤ, pos, negsuc, _+ℤ_}
-use lib.Signed.{_≤ℤ_, _<ℤ_}
-use Rattle.sheet.specs.Records.{Record}
+use lib.IntN.{pos, _+ℤ_}
+use Rattle.lines.specs.Records.{Record}
 use Rattle.sheet.specs.Refusals.{sumOf}
 use Rattle.sheet.proofs.First.{All}
 use Rattle.reckoner.specs.Sums.{sumTo, onlyAt}
-use Rattle.reckoner.specs.Attribution.{gramsAdded, raisedToZero, balance, raised, direct, indirect, boughtDirect, boughtIndirect}
+use Rattle.reckoner.specs.Attribution.{gramsAdded, raisedToZero, raised, direct, indirect, boughtDirect, boughtIndirect}
 use Rattle.reckoner.specs.Reckoning.{processCount, output, kilosBetween, directLeft, indirectLeft, totalLeft, entered, totalRaised, uncredited}
-use Rattle.reckoner.proofs.Differences.{diff, diff-pos, diff-plus, diff-eq, diff-inj, diff-ge, diff-lt, raised-diff, added-diff}
-use Rattle.reckoner.proofs.Sums.{sum-add, sum-ext, sum-swap, sum-zero-at, sum-zero-all, at-sum}
+use Rattle.reckoner.proofs.Differences.{diff-pos, diff-plus, diff-eq, raised-diff, added-diff}
+use Rattle.reckoner.proofs.Sums.{sum-add, sum-ext, sum-swap, at-sum}
 use Rattle.reckoner.proofs.Pools.{left-sum}
-use Rattle.reckoner.proofs.Entries.{Entry, entry, plus, minus, Valid, Even, valid-even, Figures, figures, balance-is, entered-is, forward}
+use Rattle.reckoner.proofs.Entries.{entry, plus, minus, Valid, Even, valid-even, figures, balance-is, entered-is, forward}
 use Rattle.reckoner.proofs.Valid.{Accepted}
 
 -- ---- raising: direct + what is taken = raised + what is added

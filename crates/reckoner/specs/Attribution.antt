@@ -1,15 +1,15 @@
 -- Document 01, "Attribution".
-use mathlib.Core.Bool.{cond, _||_}
+use mathlib.Core.Bool.{cond}
 use mathlib.Core.List.{List}
-use Prim.Native.Nat.{ℕ, zero, suc, _+_, _-_}
+use Prim.Native.Nat.{ℕ, suc}
 use lib.Dec.{eqb}
 use lib.IntN.{ℤ, pos, negsuc, _+ℤ_, _-ℤ_}
 use Rattle.quantity.specs.Streams.{streamGrams}
 use Rattle.quantity.specs.Standard.{standardA, standardB}
 use Rattle.quantity.specs.Weights.{weight, wasteGasCharge, wasteGasCredit}
-use Rattle.sheet.specs.Records.{Field, number, dash, other, Record, field, numberAt, is}
+use Rattle.lines.specs.Records.{Field, number, dash, other, Record, field, numberAt, is}
 use Rattle.sheet.specs.Refusals.{sumOf, process, from, to}
-use Rattle.sheet.specs.declared.Kind.the-variants.{SourceStream, Heat, WasteGas, Power, BoughtPrecursor}
+use Rattle.lines.specs.declared.Kind.the-variants.{SourceStream, Heat, WasteGas, Power, BoughtPrecursor}
 use Rattle.reckoner.specs.Sums.{sumOfℤ, onlyAt}
 
 -- ---- the grams of one line, 0 for a line of another kind

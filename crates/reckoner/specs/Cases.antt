@@ -4,7 +4,7 @@ use Prim.Native.Nat.{ℕ}
 use Prim.Native.String.{String}
 use lib.IntN.{ℤ, pos}
 use Rattle.decimal.specs.Text.{bytes}
-use Rattle.sheet.specs.Records.{recordsOf}
+use Rattle.lines.specs.Records.{recordsOf}
 use Rattle.reckoner.specs.Reckoning.{Reckoning, reckoning}
 use Rattle.reckoner.specs.Verdict.{rowsGrams}
 

@@ -1,14 +1,14 @@
 -- Document 01, "Goods and precursors" and "The report": the figures of each process, and the four totals.
-use mathlib.Core.Bool.{cond, _&&_, _||_}
+use mathlib.Core.Bool.{cond, _||_}
 use mathlib.Core.List.{List, [], _∷_, _++_}
 use Prim.Native.Nat.{ℕ, zero, suc, _+_, _-_}
 use lib.Dec.{eqb}
 use lib.IntN.{ℤ, pos, _+ℤ_, _-ℤ_}
-use Rattle.sheet.specs.Records.{Record, numberAt, is}
+use Rattle.lines.specs.Records.{Record, numberAt, is}
 use Rattle.sheet.specs.Refusals.{sumOf, from, to, outputIn}
-use Rattle.sheet.specs.declared.Kind.the-variants.{Process, OwnGood}
+use Rattle.lines.specs.declared.Kind.the-variants.{Process, OwnGood}
 use Rattle.reckoner.specs.Sums.{sumTo, sumOfℤ, onlyAt}
-use Rattle.reckoner.specs.Attribution.{streamOf, heatOf, chargeOf, creditOf, powerOf, boughtDirectOf, boughtIndirectOf, heatIn, heatOut, powerIn, powerOut, boughtDirect, boughtIndirect, gasCredited, raised, direct, indirect}
+use Rattle.reckoner.specs.Attribution.{streamOf, chargeOf, creditOf, boughtDirectOf, boughtIndirectOf, heatIn, heatOut, powerIn, powerOut, boughtDirect, boughtIndirect, raised, direct, indirect}
 use Rattle.reckoner.specs.Goods.{poolOf, leftOf}
 
 -- `G,from,to,kg`

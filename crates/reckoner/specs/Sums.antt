@@ -4,7 +4,7 @@ use mathlib.Core.List.{List, [], _∷_}
 use Prim.Native.Nat.{ℕ, zero, suc, _+_}
 use lib.Dec.{eqb}
 use lib.IntN.{ℤ, pos, _+ℤ_}
-use Rattle.sheet.specs.Records.{Record}
+use Rattle.lines.specs.Records.{Record}
 
 -- figure 1 + .. + figure n: process 0, outside the works, is not counted
 unfoldable pub sumTo : (n : ℕ) → (figure : ℕ → ℕ) → ℕ

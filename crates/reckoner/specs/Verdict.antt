@@ -1,11 +1,11 @@
 -- Document 01, "Sheets sent back": row 15, after all lines.
-use mathlib.Core.Bool.{Bool, true, false, _||_}
+use mathlib.Core.Bool.{Bool, false, _||_}
 use mathlib.Core.List.{List, [], _∷_, _++_}
 use Prim.Native.Nat.{ℕ, _^_}
 use lib.Dec.{leb}
 use lib.IntN.{natAbs}
 use Rattle.sheet.specs.Limits.{Limits}
-use Rattle.sheet.specs.Records.{recordsOf}
+use Rattle.lines.specs.Records.{recordsOf}
 use Rattle.sheet.specs.Verdict.{Check, check, sheetChecks}
 use Rattle.reckoner.specs.Reckoning.{Row, Totals, Reckoning, reckoning}
 

@@ -9,8 +9,8 @@ use Rattle.reckoner.specs.Goods.{takers, portion, left, totalKilos, portionOf, 
 use Rattle.report.specs.Outcome.{carbon, sheetReport}
 use Rattle.decimal.specs.Number.{allDigits, isNumber, valueFrom}
 use Rattle.decimal.specs.Spelling.{digits, spelling}
-use Rattle.sheet.specs.Lines.{linesOf, fieldsOf}
-use Rattle.sheet.specs.Records.{fieldOf, recordOf, recordsOf}
+use Rattle.lines.specs.Lines.{linesOf, fieldsOf}
+use Rattle.lines.specs.Records.{fieldOf, recordOf, recordsOf}
 use Rattle.sheet.specs.Kinds.{methodRules, rules}
 use Rattle.sheet.specs.Refusals.{anyOf, sumOf}
 use Rattle.sheet.specs.Verdict.{firstOf, fieldChecks, lineChecks, linesChecks, sheetChecks}

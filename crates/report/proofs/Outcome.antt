@@ -9,8 +9,8 @@ use lib.IntN.{pos, _+ℤ_}
 use lib.Signed.{_<ℤ_}
 use lib.ListN.{length, drop, length-append, length-drop}
 use Rattle.sheet.specs.Limits.{Limits}
-use Rattle.sheet.specs.Records.{recordsOf}
-use Rattle.sheet.specs.Verdict.{Check, check, Verdict, accepted, refused, sheetChecks}
+use Rattle.lines.specs.Records.{recordsOf}
+use Rattle.sheet.specs.Verdict.{check, Verdict, accepted, refused, sheetChecks}
 use Rattle.sheet.proofs.First.{All, all-append, Passes, First, accepted-iff, refused-iff, decided}
 use Rattle.reckoner.specs.Reckoning.{reckoning}
 use Rattle.reckoner.specs.Verdict.{figureTooLarge, reckonerChecks}

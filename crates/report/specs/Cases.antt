@@ -1,10 +1,9 @@
 -- Worked examples of the whole job: what `carbon` prints, and the outcome with a report space.
-use mathlib.Core.List.{List, [], _∷_, _++_}
+use mathlib.Core.List.{List, [], _∷_}
 use Prim.Native.Nat.{ℕ}
 use Prim.Native.String.{String}
 use Rattle.decimal.specs.Text.{bytes}
-use Rattle.sheet.specs.Limits.{limits}
-use Rattle.report.specs.Outcome.{Outcome, outcome, carbon}
+use Rattle.report.specs.Outcome.{Outcome, outcome}
 
 -- ---- what `carbon` prints
 

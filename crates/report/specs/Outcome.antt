@@ -6,7 +6,7 @@ use lib.Dec.{ltb}
 use lib.ListN.{length, drop}
 use Rattle.decimal.specs.Spelling.{spelling}
 use Rattle.sheet.specs.Limits.{Limits}
-use Rattle.sheet.specs.Records.{recordsOf}
+use Rattle.lines.specs.Records.{recordsOf}
 use Rattle.sheet.specs.Verdict.{Check, check, Verdict, accepted, refused, firstOf}
 use Rattle.reckoner.specs.Reckoning.{reckoning}
 use Rattle.reckoner.specs.Verdict.{reckonerChecks}

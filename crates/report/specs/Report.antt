@@ -1,7 +1,6 @@
 -- Document 01, "The report": its values.
 use mathlib.Core.List.{List, map}
 use Prim.Native.Nat.{ℕ, _*_, _/_}
-use lib.IntN.{ℤ}
 use Rattle.reckoner.specs.Reckoning.{Row, Totals, Reckoning}
 
 -- pool/output in g/kg, in thousandths, cut down (CBAM annex III, equations 50 and 51)

@@ -3,8 +3,8 @@ use mathlib.Core.List.{map}
 use mathlib.Core.Path.{_≡_, refl}
 use Rattle.sheet.specs.Verdict.{firstOf, sheetChecks, fieldChecks, lineChecks, linesChecks}
 use Rattle.decimal.specs.Number.{allDigits, isNumber, valueFrom}
-use Rattle.sheet.specs.Lines.{linesOf, fieldsOf}
-use Rattle.sheet.specs.Records.{fieldOf, recordOf}
+use Rattle.lines.specs.Lines.{linesOf, fieldsOf}
+use Rattle.lines.specs.Records.{fieldOf, recordOf}
 use Rattle.sheet.specs.Kinds.{methodRules, rules}
 use Rattle.sheet.specs.Refusals.{anyOf, sumOf}
 use Rattle.sheet.specs.Cases.{examples, judged}

@@ -1,11 +1,10 @@
 -- The verdict is the first row that applies, in the order of the list of checks; no list is without a verdict. Assumes nothing.
-use mathlib.Core.Path.{_≡_, refl, sym, ap, _∙_}
+use mathlib.Core.Path.{_≡_, refl, sym, ap}
 use mathlib.Core.Logic.{_↔_, _⊎_, inl, inr}
 use mathlib.Core.Bool.{Bool, true, false, cond}
 use mathlib.Core.List.{List, [], _∷_, _++_}
 use Prim.Native.Nat.{ℕ}
 use native.Mathlib.Omega.{arith}
-use Rattle.decimal.proofs.Bools.{never}
 use Rattle.sheet.specs.Verdict.{Check, Verdict, accepted, refused, firstOf}
 
 module _ {A : Type 0} (P : A → Type 0) where

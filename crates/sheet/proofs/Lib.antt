@@ -2,5 +2,4 @@
 pub mod Cases
 pub mod First
 pub mod Passed
-pub mod OneRecord
 pub mod OneSheet

@@ -1,20 +1,20 @@
 -- An accepted sheet's records spell the sheet, and only that sheet. Assumes nothing.
 use mathlib.Core.Path.{_≡_, refl, sym, ap, _∙_}
-use mathlib.Core.Bool.{Bool, true, false, not}
+use mathlib.Core.Bool.{true, not}
 use mathlib.Core.List.{List, [], _∷_}
 use Prim.Native.Nat.{ℕ, suc}
 use native.Mathlib.Omega.{arith}
 use lib.ListN.{length}
 use Rattle.decimal.proofs.Bools.{never}
 use Rattle.sheet.specs.Limits.{Limits}
-use Rattle.sheet.specs.Lines.{Line, linesOf}
-use Rattle.sheet.specs.Records.{Field, number, dash, other, Record, recordOf, recordsOf}
+use Rattle.lines.specs.Lines.{Line, linesOf}
+use Rattle.lines.specs.Records.{Field, number, dash, other, Record, recordOf, recordsOf}
 use Rattle.sheet.specs.Kinds.{Rule}
 use Rattle.sheet.specs.Verdict.{accepted, firstOf, fieldChecks, sheetChecks}
-use Rattle.sheet.specs.Spelling.{spellSheet}
+use Rattle.lines.specs.Spelling.{spellSheet}
 use Rattle.sheet.proofs.First.{All, Passes, accepted-passes}
 use Rattle.sheet.proofs.Passed.{AllFine, sheet-fine}
-use Rattle.sheet.proofs.OneRecord.{allPlain, allRead, spell-sheet}
+use Rattle.lines.proofs.OneRecord.{allPlain, allRead, spell-sheet}
 
 module _ (limits : Limits) where
   -- fields that are fine are numbers or `-`

@@ -1,20 +1,20 @@
 -- What an accepted sheet shows of its lines. Assumes nothing.
-use mathlib.Core.Path.{_≡_, refl, sym, ap, _∙_}
-use mathlib.Core.Bool.{Bool, true, false, not, _||_}
-use mathlib.Core.List.{List, [], _∷_, _++_}
-use Prim.Native.Nat.{ℕ, zero, suc, _+_, _≤_, _<_}
+use mathlib.Core.Path.{_≡_, sym, _∙_}
+use mathlib.Core.Bool.{true, false}
+use mathlib.Core.List.{List, [], _∷_}
+use Prim.Native.Nat.{ℕ, zero, suc, _≤_, _<_}
 use native.Mathlib.Omega.{arith}
 use borrow.Author.Tests.{eqb-true, eqb-false, ltb-false, not-false}
 use lib.Dec.{eqb, ltb}
 use lib.ListN.{length, getD}
 use Rattle.decimal.proofs.Bools.{never, or-neither}
 use Rattle.sheet.specs.Limits.{Limits}
-use Rattle.sheet.specs.Lines.{Line, linesOf}
-use Rattle.sheet.specs.Records.{Field, number, dash, other, Record, recordOf, numberIn}
+use Rattle.lines.specs.Lines.{Line, linesOf}
+use Rattle.lines.specs.Records.{Field, number, dash, other, Record, recordOf, numberIn}
 use Rattle.sheet.specs.Kinds.{Rule, _to_, rulesOf}
-use Rattle.sheet.specs.Refusals.{tooManyBytes, tooManyLines, unknownKind, notNumber, outOfRange, processNotNext, missingProcess, endsNotAllowed, noStandardValue, secondOfPair, outputExceeded, emptySheet}
-use Rattle.sheet.specs.Verdict.{Check, check, accepted, firstOf, fieldChecks, lineChecks, linesChecks, sheetChecks}
-use Rattle.sheet.proofs.First.{All, all-append, Passes, accepted-passes}
+use Rattle.sheet.specs.Refusals.{tooManyLines, unknownKind, notNumber, outOfRange, processNotNext, missingProcess, endsNotAllowed, noStandardValue, secondOfPair, outputExceeded}
+use Rattle.sheet.specs.Verdict.{fieldChecks, lineChecks, linesChecks, sheetChecks}
+use Rattle.sheet.proofs.First.{All, all-append, Passes}
 
 module _ (limits : Limits) where
   -- a line by which no row applies, below the records above

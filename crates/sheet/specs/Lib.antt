@@ -1,9 +1,6 @@
 -- Document 01, "The sheet" and "Sheets sent back", in the paper's order.
 pub mod Limits
-pub mod Lines
-pub mod Records
 pub mod Kinds
 pub mod Refusals
 pub mod Verdict
-pub mod Spelling
 pub mod Cases

@@ -1,15 +1,15 @@
 -- Document 01, "Sheets sent back": each row of its table, in order, as a test. `above` holds the records of the lines above, the nearest first.
 use mathlib.Core.Bool.{Bool, true, false, cond, _&&_, _||_, not}
 use mathlib.Core.List.{List, [], _∷_}
-use Prim.Native.Nat.{ℕ, zero, suc, _+_}
+use Prim.Native.Nat.{ℕ, suc, _+_}
 use lib.Dec.{eqb, ltb, leb}
 use lib.ListN.{length}
 use Rattle.sheet.specs.Limits.{Limits}
-use Rattle.sheet.specs.Lines.{Line}
-use Rattle.sheet.specs.Records.{Field, number, dash, other, Record, field, numberAt, is}
+use Rattle.lines.specs.Lines.{Line}
+use Rattle.lines.specs.Records.{Field, number, dash, other, Record, field, numberAt, is}
 use Rattle.sheet.specs.Kinds.{Rule, rulesOf, namedFields}
-use Rattle.sheet.specs.declared.Kind.{Kind}
-use Rattle.sheet.specs.declared.Kind.the-variants.{Process, SourceStream, Heat, WasteGas, Power, BoughtPrecursor, OwnGood, Unknown}
+use Rattle.lines.specs.declared.Kind.{Kind}
+use Rattle.lines.specs.declared.Kind.the-variants.{Process, SourceStream, Heat, WasteGas, Power, BoughtPrecursor, OwnGood, Unknown}
 
 -- ---- what the lines above say
 

@@ -1,12 +1,12 @@
 -- Document 01, "Sheets sent back": the order of judging, and the verdict. Rows 15 and 16 come after all lines and are added where the
 -- report's figures and its space are known.
-use mathlib.Core.Bool.{Bool, true, false, cond}
+use mathlib.Core.Bool.{Bool, cond}
 use mathlib.Core.List.{List, [], _∷_, _++_}
 use Prim.Native.Nat.{ℕ, suc}
 use lib.ListN.{length}
 use Rattle.sheet.specs.Limits.{Limits}
-use Rattle.sheet.specs.Lines.{Line, linesOf, lineBytes}
-use Rattle.sheet.specs.Records.{Field, Record, recordOf}
+use Rattle.lines.specs.Lines.{Line, linesOf, lineBytes}
+use Rattle.lines.specs.Records.{Field, Record, recordOf}
 use Rattle.sheet.specs.Kinds.{Rule, rulesOf}
 use Rattle.sheet.specs.Refusals.{tooManyBytes, tooManyLines, lacksLF, unknownKind, wrongFieldCount, notNumber, outOfRange, processNotNext, missingProcess, endsNotAllowed, noStandardValue, secondOfPair, outputExceeded, emptySheet}
 

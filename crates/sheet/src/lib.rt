@@ -1,13 +1,1 @@
-// Document 01, "The sheet" and "Sheets sent back". The definitions are in specs/.
-
-// The seven kinds of lines, and a line whose first field is none of their letters.
-pub enum Kind {
-    Process,
-    SourceStream,
-    Heat,
-    WasteGas,
-    Power,
-    BoughtPrecursor,
-    OwnGood,
-    Unknown,
-}
+// Document 01, "The sheet" and "Sheets sent back": the rules of lines and the verdict. The definitions are in specs/.

@@ -1,13 +1,13 @@
 -- Document 01, "The sheet": what a line says. A record keeps it, `-` apart from a number.
-use mathlib.Core.Bool.{Bool, true, false, cond}
+use mathlib.Core.Bool.{Bool, false, cond}
 use mathlib.Core.List.{List, [], _∷_, map}
 use Prim.Native.Nat.{ℕ}
 use lib.Dec.{eqb}
 use lib.ListN.{getD}
 use Rattle.decimal.specs.Number.{isNumber, value}
-use Rattle.sheet.specs.Lines.{Line, linesOf, fieldsOf}
-use Rattle.sheet.specs.declared.Kind.{Kind}
-use Rattle.sheet.specs.declared.Kind.the-variants.{Process, SourceStream, Heat, WasteGas, Power, BoughtPrecursor, OwnGood, Unknown}
+use Rattle.lines.specs.Lines.{Line, linesOf, fieldsOf}
+use Rattle.lines.specs.declared.Kind.{Kind}
+use Rattle.lines.specs.declared.Kind.the-variants.{Process, SourceStream, Heat, WasteGas, Power, BoughtPrecursor, OwnGood, Unknown}
 
 -- ---- kinds and their letters
 

@@ -2,8 +2,8 @@
 use mathlib.Core.List.{List, [], _∷_, _++_}
 use Prim.Native.Nat.{ℕ}
 use Rattle.decimal.specs.Spelling.{spelling}
-use Rattle.sheet.specs.Lines.{LF, COMMA}
-use Rattle.sheet.specs.Records.{Field, number, dash, other, Record, letter}
+use Rattle.lines.specs.Lines.{LF, COMMA}
+use Rattle.lines.specs.Records.{Field, number, dash, other, Record, letter}
 
 abbrev pub spellField : Field → List ℕ
 spellField (number n) = spelling n

@@ -15,11 +15,11 @@ use Rattle.decimal.specs.Spelling.{spelling}
 use Rattle.decimal.proofs.Bools.{never, and-both}
 use Rattle.decimal.proofs.Spelling.{spelling-digits, spelling-value}
 use Rattle.decimal.proofs.OneSpelling.{spelling-number, number-spelling}
-use Rattle.sheet.specs.Lines.{LF, COMMA, Line, line, beforeLine, linesOf, beforeField, fieldsOf, lineBytes, lineStart}
-use Rattle.sheet.specs.Records.{letter, kindOf, kindIn, Field, number, dash, other, isDash, fieldOf, Record, recordFrom, recordOf, recordsOf}
-use Rattle.sheet.specs.Spelling.{spellField, spellFields, spellLine, spellSheet}
-use Rattle.sheet.specs.declared.Kind.{Kind}
-use Rattle.sheet.specs.declared.Kind.the-variants.{Process, SourceStream, Heat, WasteGas, Power, BoughtPrecursor, OwnGood, Unknown}
+use Rattle.lines.specs.Lines.{LF, COMMA, Line, line, beforeLine, linesOf, beforeField, fieldsOf, lineBytes, lineStart}
+use Rattle.lines.specs.Records.{letter, kindOf, kindIn, Field, number, dash, other, isDash, fieldOf, Record, recordFrom, recordOf, recordsOf}
+use Rattle.lines.specs.Spelling.{spellField, spellFields, spellLine, spellSheet}
+use Rattle.lines.specs.declared.Kind.{Kind}
+use Rattle.lines.specs.declared.Kind.the-variants.{Process, SourceStream, Heat, WasteGas, Power, BoughtPrecursor, OwnGood, Unknown}
 
 -- ---- what can be spelt and read again
 
