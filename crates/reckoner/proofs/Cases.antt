@@ -11,9 +11,10 @@ use Rattle.quantity.specs.Standard.{fuels, carbonates, fuelOf, carbonateOf}
 use Rattle.quantity.specs.Weights.{weight, wasteGasCharge, wasteGasCredit}
 use Rattle.lines.specs.Lines.{linesOf, fieldsOf}
 use Rattle.sheet.specs.Refusals.{sumOf}
-use Rattle.reckoner.specs.Sums.{sumTo, sumOfℤ, onlyAt}
+use Rattle.goods.specs.Sums.{sumTo, onlyAt}
+use Rattle.reckoner.specs.Sums.{sumOfℤ}
 use Rattle.reckoner.specs.Attribution.{streamOf, heatOf, chargeOf, creditOf, powerOf, boughtDirectOf, boughtIndirectOf, streams, heatIn, heatOut, gasCharged, gasCredited, powerIn, powerOut, boughtDirect, boughtIndirect, balance, raised, direct, indirect}
-use Rattle.reckoner.specs.Goods.{takers, totalKilos, portion, left, portionOf, portionsTaken, poolsTo, poolOf, leftOf}
+use Rattle.goods.specs.Goods.{takers, totalKilos, portion, left, portionOf, portionsTaken, poolsTo, poolOf, leftOf}
 use Rattle.reckoner.specs.Cases.{found, examples}
 
 pub examples-hold : map found examples ≡ map (λ e. e .expected) examples

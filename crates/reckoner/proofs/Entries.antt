@@ -15,11 +15,12 @@ use Rattle.sheet.specs.Refusals.{sumOf, process, from, to}
 use Rattle.lines.specs.declared.Kind.{Kind}
 use Rattle.lines.specs.declared.Kind.the-variants.{Process, SourceStream, Heat, WasteGas, Power, BoughtPrecursor, OwnGood, Unknown}
 use Rattle.sheet.proofs.First.{All}
-use Rattle.reckoner.specs.Sums.{onlyAt}
+use Rattle.goods.specs.Sums.{onlyAt}
 use Rattle.reckoner.specs.Attribution.{streamOf, heatOf, chargeOf, creditOf, powerOf, boughtDirectOf, boughtIndirectOf, streams, heatIn, heatOut, gasCharged, gasCredited, powerIn, powerOut, boughtDirect, boughtIndirect, raisedToZero, gramsAdded, balance, indirect}
 use Rattle.reckoner.specs.Reckoning.{kilosOf, kilosBetween, entered, uncredited}
 use Rattle.reckoner.proofs.Differences.{diff, diff-plus, diff-minus}
-use Rattle.reckoner.proofs.Sums.{ofℤ-diff, at-other, at-le, at-none, at-outside}
+use Rattle.goods.proofs.Sums.{at-other, at-le, at-none, at-outside}
+use Rattle.reckoner.proofs.Sums.{ofℤ-diff}
 
 -- process 0 is outside the works
 pub record Entry : Type 0 where

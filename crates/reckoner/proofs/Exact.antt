@@ -20,7 +20,7 @@ use Rattle.sheet.proofs.First.{All}
 use Rattle.reckoner.specs.Attribution.{chargeOf, creditOf, gramsAdded, balance, raised}
 use Rattle.reckoner.specs.Reckoning.{processCount, totalLeft, entered, totalRaised, uncredited}
 use Rattle.reckoner.proofs.Differences.{diff, diff-pos, diff-eq, diff-inj, diff-ge, diff-lt}
-use Rattle.reckoner.proofs.Sums.{sum-zero-at, sum-zero-all}
+use Rattle.goods.proofs.Sums.{sum-zero-at, sum-zero-all}
 use Rattle.reckoner.proofs.Entries.{recordIs, entry, Valid, figures, entered-is}
 use Rattle.reckoner.proofs.Valid.{Accepted}
 use Rattle.reckoner.proofs.Works.{conserved}

@@ -2,8 +2,6 @@
 pub mod Cases
 pub mod Differences
 pub mod Sums
-pub mod Portions
-pub mod Pools
 pub mod Entries
 pub mod Valid
 pub mod Works

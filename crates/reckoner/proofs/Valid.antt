@@ -19,9 +19,10 @@ use Rattle.lines.specs.declared.Kind.{Kind}
 use Rattle.lines.specs.declared.Kind.the-variants.{Process, SourceStream, Heat, WasteGas, Power, BoughtPrecursor, OwnGood, Unknown}
 use Rattle.sheet.proofs.First.{All, Passes}
 use Rattle.sheet.proofs.Passed.{Fine, AllFine, FineSheet, fields-in-range}
-use Rattle.reckoner.specs.Sums.{sumTo, onlyAt}
+use Rattle.goods.specs.Sums.{sumTo, onlyAt}
 use Rattle.reckoner.specs.Reckoning.{kilosOf, processCount, output, kilosBetween}
-use Rattle.reckoner.proofs.Sums.{sum-swap, sum-none, of-le, at-sum-le}
+use Rattle.goods.proofs.Sums.{sum-none, at-sum-le}
+use Rattle.reckoner.proofs.Sums.{sum-swap, of-le}
 use Rattle.reckoner.proofs.Entries.{recordIs, Valid}
 
 -- ---- processes are numbered 1 .. processCount

@@ -9,12 +9,13 @@ use lib.IntN.{pos, _+ℤ_}
 use Rattle.lines.specs.Records.{Record}
 use Rattle.sheet.specs.Refusals.{sumOf}
 use Rattle.sheet.proofs.First.{All}
-use Rattle.reckoner.specs.Sums.{sumTo, onlyAt}
+use Rattle.goods.specs.Sums.{sumTo, onlyAt}
 use Rattle.reckoner.specs.Attribution.{gramsAdded, raisedToZero, raised, direct, indirect, boughtDirect, boughtIndirect}
 use Rattle.reckoner.specs.Reckoning.{processCount, output, kilosBetween, directLeft, indirectLeft, totalLeft, entered, totalRaised, uncredited}
 use Rattle.reckoner.proofs.Differences.{diff-pos, diff-plus, diff-eq, raised-diff, added-diff}
-use Rattle.reckoner.proofs.Sums.{sum-add, sum-ext, sum-swap, at-sum}
-use Rattle.reckoner.proofs.Pools.{left-sum}
+use Rattle.goods.proofs.Sums.{sum-add, sum-ext, at-sum}
+use Rattle.reckoner.proofs.Sums.{sum-swap}
+use Rattle.goods.proofs.Pools.{left-sum}
 use Rattle.reckoner.proofs.Entries.{entry, plus, minus, Valid, Even, valid-even, figures, balance-is, entered-is, forward}
 use Rattle.reckoner.proofs.Valid.{Accepted}
 

@@ -10,7 +10,8 @@ use Rattle.quantity.specs.Weights.{weight, wasteGasCharge, wasteGasCredit}
 use Rattle.lines.specs.Records.{Field, number, dash, other, Record, field, numberAt, is}
 use Rattle.sheet.specs.Refusals.{sumOf, process, from, to}
 use Rattle.lines.specs.declared.Kind.the-variants.{SourceStream, Heat, WasteGas, Power, BoughtPrecursor}
-use Rattle.reckoner.specs.Sums.{sumOfℤ, onlyAt}
+use Rattle.goods.specs.Sums.{onlyAt}
+use Rattle.reckoner.specs.Sums.{sumOfℤ}
 
 -- ---- the grams of one line, 0 for a line of another kind
 

@@ -7,9 +7,10 @@ use lib.IntN.{ℤ, pos, _+ℤ_, _-ℤ_}
 use Rattle.lines.specs.Records.{Record, numberAt, is}
 use Rattle.sheet.specs.Refusals.{sumOf, from, to, outputIn}
 use Rattle.lines.specs.declared.Kind.the-variants.{Process, OwnGood}
-use Rattle.reckoner.specs.Sums.{sumTo, sumOfℤ, onlyAt}
+use Rattle.goods.specs.Sums.{sumTo, onlyAt}
+use Rattle.reckoner.specs.Sums.{sumOfℤ}
 use Rattle.reckoner.specs.Attribution.{streamOf, chargeOf, creditOf, boughtDirectOf, boughtIndirectOf, heatIn, heatOut, powerIn, powerOut, boughtDirect, boughtIndirect, raised, direct, indirect}
-use Rattle.reckoner.specs.Goods.{poolOf, leftOf}
+use Rattle.goods.specs.Goods.{poolOf, leftOf}
 
 -- `G,from,to,kg`
 unfoldable pub kilosOf : Record → ℕ

@@ -5,7 +5,7 @@ use Rattle.quantity.specs.Rounding.{round}
 use Rattle.quantity.specs.Streams.{combustionGrams, processGrams, carbonGrams, streamGrams, fossilGrams}
 use Rattle.quantity.specs.Standard.{fuels, carbonates, fuelOf, carbonateOf}
 use Rattle.quantity.specs.Weights.{weight, wasteGasCharge, wasteGasCredit}
-use Rattle.reckoner.specs.Goods.{takers, portion, left, totalKilos, portionOf, portionsTaken, poolsTo, poolOf, leftOf}
+use Rattle.goods.specs.Goods.{takers, portion, left, totalKilos, portionOf, portionsTaken, poolsTo, poolOf, leftOf}
 use Rattle.report.specs.Outcome.{allChecks, verdict, outcome, carbon, sheetReport}
 use Rattle.decimal.specs.Number.{allDigits, isNumber, valueFrom}
 use Rattle.decimal.specs.Spelling.{digits, spelling}
@@ -14,7 +14,8 @@ use Rattle.lines.specs.Records.{fieldOf, recordOf, recordsOf}
 use Rattle.sheet.specs.Kinds.{methodRules, rules}
 use Rattle.sheet.specs.Refusals.{anyOf, sumOf}
 use Rattle.sheet.specs.Verdict.{firstOf, fieldChecks, lineChecks, linesChecks, sheetChecks}
-use Rattle.reckoner.specs.Sums.{sumTo, sumOfℤ, onlyAt}
+use Rattle.goods.specs.Sums.{sumTo, onlyAt}
+use Rattle.reckoner.specs.Sums.{sumOfℤ}
 use Rattle.reckoner.specs.Attribution.{streamOf, heatOf, chargeOf, creditOf, powerOf, boughtDirectOf, boughtIndirectOf, streams, heatIn, heatOut, gasCharged, gasCredited, powerIn, powerOut, boughtDirect, boughtIndirect, balance, raised, direct, indirect}
 use Rattle.reckoner.specs.Reckoning.{kilosOf, processCount, output, kilosBetween, directPool, indirectPool, directLeft, indirectLeft, totalLeft, entered, totalRaised, uncredited, rowsTo, reckoning}
 use Rattle.reckoner.specs.Verdict.{rowsGrams, anyFrom, figureTooLarge, reckonerChecks}

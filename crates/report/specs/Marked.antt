@@ -8,7 +8,7 @@ use Rattle.quantity.specs.Streams.{combustionGrams, processGrams, carbonGrams}
 use Rattle.quantity.specs.Standard.{standardA, standardB}
 use Rattle.quantity.specs.Weights.{weight, wasteGasCharge, wasteGasCredit}
 use Rattle.sheet.specs.Limits.{limits}
-use Rattle.reckoner.specs.Goods.{Taker, taker, portion, left}
+use Rattle.goods.specs.Goods.{Taker, taker, portion, left}
 use Rattle.report.specs.Outcome.{carbon}
 
 -- numbers or bytes that the definitions give, and those that document 01 prints

@@ -5,10 +5,10 @@ use Prim.Native.Nat.{ℕ, zero, suc, _+_, _-_, _≤_}
 use native.Mathlib.Omega.{arith}
 use native.Mathlib.Nat.{mul-zero, zero-div, mul-le-mul-left, le-trans, le-refl}
 use lib.ListN.{length}
-use Rattle.reckoner.specs.Sums.{sumTo}
-use Rattle.reckoner.specs.Goods.{takers, portionOf, portionsTaken, poolsTo, poolOf, left, leftOf}
-use Rattle.reckoner.proofs.Sums.{sum-add, sum-ext, sum-le, sum-mono}
-use Rattle.reckoner.proofs.Portions.{div-mono, given-le, givenTo, portionTo, takers-kilos, portion-is}
+use Rattle.goods.specs.Sums.{sumTo}
+use Rattle.goods.specs.Goods.{takers, portionOf, portionsTaken, poolsTo, poolOf, left, leftOf}
+use Rattle.goods.proofs.Sums.{sum-add, sum-ext, sum-le, sum-mono}
+use Rattle.goods.proofs.Portions.{div-mono, given-le, givenTo, portionTo, takers-kilos, portion-is}
 
 -- ---- what is given of one pool, process by process
 

@@ -11,9 +11,9 @@ use lib.Dec.{eqb}
 use lib.ListN.{length, take, length-append, List·getD-append}
 use lib.Seq.{take-append-le, take-append-seam, take-all, take-length, getD-append-seam}
 use borrow.Author.Tests.{eqb-true, eqb-false}
-use Rattle.reckoner.specs.Sums.{sumTo, onlyAt}
-use Rattle.reckoner.specs.Goods.{Taker, taker, takers, totalKilos, kilosOfFirst, takerAt, portion, left, portionOf}
-use Rattle.reckoner.proofs.Sums.{sum-cong, at-same, at-other, at-none}
+use Rattle.goods.specs.Sums.{sumTo, onlyAt}
+use Rattle.goods.specs.Goods.{Taker, taker, takers, totalKilos, kilosOfFirst, takerAt, portion, left, portionOf}
+use Rattle.goods.proofs.Sums.{sum-cong, at-same, at-other, at-none}
 
 pub div-mono : (a b k : ℕ) → a ≤ b → a / k ≤ b / k
 div-mono a b k h = go (eq-zero-or-pos k)

@@ -4,7 +4,7 @@ use mathlib.Core.List.{List, [], _∷_, _++_}
 use Prim.Native.Nat.{ℕ, zero, suc, _+_, _*_, _-_, _/_}
 use lib.Dec.{eqb}
 use lib.ListN.{length, getD, take}
-use Rattle.reckoner.specs.Sums.{sumTo, onlyAt}
+use Rattle.goods.specs.Sums.{sumTo, onlyAt}
 
 -- ---- a pool and its takers
 

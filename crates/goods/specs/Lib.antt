@@ -1,0 +1,4 @@
+-- Document 01, "Goods and precursors".
+pub mod Sums
+pub mod Goods
+pub mod Cases
