@@ -11,3 +11,24 @@ pub enum Kind {
     OwnGood,
     Unknown,
 }
+
+// As many fields as the longest line has after its first.
+pub const WORDS: usize = 8;
+
+// A field is held in one word: a number, where one above the highest that any rule allows stands for all above it,
+pub const CAP: u64 = 1000000000001;
+
+// `-`,
+pub const DASH: u64 = 1000000000002;
+
+// or anything else.
+pub const OTHER: u64 = 1000000000003;
+
+// A line that was read: its kind, how many fields follow the first, the words of the first eight of them, and the place
+// of its LF, or of the sheet's end where it lacks it.
+pub struct LineRead {
+    pub kind: Kind,
+    pub count: usize,
+    pub words: [u64; WORDS],
+    pub end: usize,
+}
