@@ -30,6 +30,7 @@ module _ (records : List Record) where
   kilosBetween i j = sumOf (λ r. onlyAt i (from r) (onlyAt j (to r) (kilosOf r))) records
 
   -- the direct pool is the direct attribution, the bought direct grams and the direct portions of own goods; the indirect pool likewise
+  -- (CBAM annex III, equation 57)
   unfoldable pub directPool : (k : ℕ) → ℕ
   directPool k = poolOf processCount output kilosBetween (λ i. direct records i + boughtDirect records i) k
 

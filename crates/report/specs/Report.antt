@@ -3,7 +3,7 @@ use mathlib.Core.List.{List, map}
 use Prim.Native.Nat.{ℕ, _*_, _/_}
 use Rattle.reckoner.specs.Reckoning.{Row, Totals, Reckoning}
 
--- pool/output in g/kg, in thousandths, cut down (CBAM annex III, equations 50 and 51)
+-- pool/output in g/kg, in thousandths, cut down (CBAM annex III, equations 50, 51 and 57)
 unfoldable pub specific : (pool output : ℕ) → ℕ
 specific pool output = pool * 1000 / output
 
