@@ -1,6 +1,6 @@
 -- Double entry. Each line becomes one entry; the figures of document 01 are sums over entries, and an entry of a valid line is even: what it
 -- puts into processes and sends out of the works is what it takes from processes, what enters the works and what stays uncredited.
--- A further kind of line is one row of `entryOf`, one clause of `Valid` and one clause of `even`. Assumes nothing.
+-- A further kind of line is one row of `entryOf` (specs/Entries), one clause of `Valid` and one clause of `even`. Assumes nothing.
 use mathlib.Core.Path.{_≡_, refl, sym, ap₂, _∙_}
 use mathlib.Core.Bool.{Bool, true, false, cond, _||_}
 use mathlib.Core.List.{List, [], _∷_}
@@ -18,82 +18,11 @@ use Rattle.sheet.proofs.First.{All}
 use Rattle.goods.specs.Sums.{onlyAt}
 use Rattle.reckoner.specs.Attribution.{streamOf, heatOf, chargeOf, creditOf, powerOf, boughtDirectOf, boughtIndirectOf, streams, heatIn, heatOut, gasCharged, gasCredited, powerIn, powerOut, boughtDirect, boughtIndirect, raisedToZero, gramsAdded, balance, indirect}
 use Rattle.reckoner.specs.Reckoning.{kilosOf, kilosBetween, entered, uncredited}
+use Rattle.reckoner.specs.declared.Entry.{Entry}
+use Rattle.reckoner.specs.Entries.{betweenProcesses, entry}
 use Rattle.reckoner.proofs.Differences.{diff, diff-plus, diff-minus}
 use Rattle.goods.proofs.Sums.{at-other, at-le, at-none, at-outside}
 use Rattle.reckoner.proofs.Sums.{ofℤ-diff}
-
--- process 0 is outside the works
-pub record Entry : Type 0 where
-  -- the process charged, and the grams
-  pub charged : ℕ
-  pub charge : ℕ
-  -- the process credited, and the grams
-  pub credited : ℕ
-  pub credit : ℕ
-  -- the process that uses power, and its grams
-  pub user : ℕ
-  pub power : ℕ
-  -- the process that buys, and the grams bought
-  pub buyer : ℕ
-  pub direct : ℕ
-  pub indirect : ℕ
-  -- what enters the works, what leaves it, and what stays uncredited
-  pub entering : ℕ
-  pub leaving : ℕ
-  pub lost : ℕ
-
-abbrev pub moved : (charged charge credited credit user power entering leaving lost : ℕ) → Entry
-moved charged charge credited credit user power entering leaving lost = record {
-  charged = charged;
-  charge = charge;
-  credited = credited;
-  credit = credit;
-  user = user;
-  power = power;
-  buyer = 0;
-  direct = 0;
-  indirect = 0;
-  entering = entering;
-  leaving = leaving;
-  lost = lost;
-}
-
-abbrev pub bought : (buyer direct indirect : ℕ) → Entry
-bought buyer direct indirect = record {
-  charged = 0;
-  charge = 0;
-  credited = 0;
-  credit = 0;
-  user = 0;
-  power = 0;
-  buyer = buyer;
-  direct = direct;
-  indirect = indirect;
-  entering = direct + indirect;
-  leaving = 0;
-  lost = 0;
-}
-
--- charge minus credit, where neither end is outside
-abbrev pub betweenProcesses : Record → (grams : ℕ) → ℕ
-betweenProcesses r grams = cond (eqb 0 (from r) || eqb 0 (to r)) 0 grams
-
--- the entry of each kind of line
-abbrev pub entryOf : Kind → Record → Entry
-entryOf Process r = moved 0 0 0 0 0 0 0 0 0
-entryOf SourceStream r =
-    moved (process r) (raisedToZero (streamOf r)) (process r) (gramsAdded (streamOf r)) 0 0 (raisedToZero (streamOf r)) (gramsAdded (streamOf r)) 0
-entryOf Heat r = moved (to r) (heatOf r) (from r) (heatOf r) 0 0 (onlyAt 0 (from r) (heatOf r)) (onlyAt 0 (to r) (heatOf r)) 0
-entryOf WasteGas r =
-    moved (to r) (chargeOf r) (from r) (creditOf r) 0 0 (onlyAt 0 (from r) (chargeOf r)) (onlyAt 0 (to r) (creditOf r))
-    (betweenProcesses r (chargeOf r - creditOf r))
-entryOf Power r = moved 0 0 (from r) (powerOf r) (to r) (powerOf r) (onlyAt 0 (from r) (powerOf r)) (onlyAt 0 (to r) (powerOf r)) 0
-entryOf BoughtPrecursor r = bought (process r) (boughtDirectOf r) (boughtIndirectOf r)
-entryOf OwnGood r = moved 0 0 0 0 0 0 0 0 0
-entryOf Unknown r = moved 0 0 0 0 0 0 0 0 0
-
-abbrev pub entry : Record → Entry
-entry r = entryOf (r .kind) r
 
 abbrev pub recordIs : Kind → List Field → Record
 recordIs k said = record { kind = k; said = said }
@@ -101,10 +30,10 @@ recordIs k said = record { kind = k; said = said }
 -- ---- what an entry puts into process k and takes from it
 
 abbrev pub plus : (k : ℕ) → Record → ℕ
-plus k r = onlyAt k (entry r .charged) (entry r .charge)
+plus k r = onlyAt k (entry r .charged) (entry r .charge .0)
 
 abbrev pub minus : (k : ℕ) → Record → ℕ
-minus k r = onlyAt k (entry r .credited) (entry r .credit)
+minus k r = onlyAt k (entry r .credited) (entry r .credit .0)
 
 abbrev streamAt : (k : ℕ) → Record → ℤ
 streamAt k r = cond (eqb k (process r)) (streamOf r) (pos 0)
@@ -131,16 +60,16 @@ pub record Parts (i : ℕ) (r : Record) : Type 0 where
   pub taken :
       onlyAt i (process r) (gramsAdded (streamOf r)) + onlyAt i (from r) (heatOf r) + onlyAt i (from r) (creditOf r) + onlyAt i (from r) (powerOf r)
       ≡ minus i r
-  pub used : onlyAt i (to r) (powerOf r) ≡ onlyAt i (entry r .user) (entry r .power)
-  pub direct : onlyAt i (process r) (boughtDirectOf r) ≡ onlyAt i (entry r .buyer) (entry r .direct)
-  pub indirect : onlyAt i (process r) (boughtIndirectOf r) ≡ onlyAt i (entry r .buyer) (entry r .indirect)
+  pub used : onlyAt i (to r) (powerOf r) ≡ onlyAt i (entry r .user) (entry r .power .0)
+  pub direct : onlyAt i (process r) (boughtDirectOf r) ≡ onlyAt i (entry r .buyer) (entry r .direct .0)
+  pub indirect : onlyAt i (process r) (boughtIndirectOf r) ≡ onlyAt i (entry r .buyer) (entry r .indirect .0)
   pub entering :
       raisedToZero (streamOf r) + onlyAt 0 (from r) (heatOf r) + onlyAt 0 (from r) (chargeOf r) + onlyAt 0 (from r) (powerOf r)
       + boughtDirectOf r + boughtIndirectOf r
-      ≡ entry r .entering
+      ≡ entry r .entering .0
   pub leaving :
-      gramsAdded (streamOf r) + onlyAt 0 (to r) (heatOf r) + onlyAt 0 (to r) (creditOf r) + onlyAt 0 (to r) (powerOf r) ≡ entry r .leaving
-  pub lost : betweenProcesses r (chargeOf r - creditOf r) ≡ entry r .lost
+      gramsAdded (streamOf r) + onlyAt 0 (to r) (heatOf r) + onlyAt 0 (to r) (creditOf r) + onlyAt 0 (to r) (powerOf r) ≡ entry r .leaving .0
+  pub lost : betweenProcesses r (chargeOf r - creditOf r) ≡ entry r .lost .0
 
 -- an amount of 0 counts nowhere
 pub record Nothing (i : ℕ) (r : Record) : Type 0 where
@@ -185,17 +114,17 @@ parts-of i r = parts i (r .kind) (r .said)
 pub record Figures (i : ℕ) (rs : List Record) : Type 0 where
   pub added : sumOf (λ r. raisedToZero (streamAt i r)) rs + heatIn rs i + gasCharged rs i ≡ sumOf (plus i) rs
   pub taken : sumOf (λ r. gramsAdded (streamAt i r)) rs + heatOut rs i + gasCredited rs i + powerOut rs i ≡ sumOf (minus i) rs
-  pub used : powerIn rs i ≡ sumOf (λ r. onlyAt i (entry r .user) (entry r .power)) rs
-  pub direct : boughtDirect rs i ≡ sumOf (λ r. onlyAt i (entry r .buyer) (entry r .direct)) rs
-  pub indirect : boughtIndirect rs i ≡ sumOf (λ r. onlyAt i (entry r .buyer) (entry r .indirect)) rs
+  pub used : powerIn rs i ≡ sumOf (λ r. onlyAt i (entry r .user) (entry r .power .0)) rs
+  pub direct : boughtDirect rs i ≡ sumOf (λ r. onlyAt i (entry r .buyer) (entry r .direct .0)) rs
+  pub indirect : boughtIndirect rs i ≡ sumOf (λ r. onlyAt i (entry r .buyer) (entry r .indirect .0)) rs
   pub entering :
       sumOf (λ r. raisedToZero (streamOf r)) rs + heatOut rs 0 + sumOf (λ r. onlyAt 0 (from r) (chargeOf r)) rs + powerOut rs 0
       + sumOf boughtDirectOf rs + sumOf boughtIndirectOf rs
-      ≡ sumOf (λ r. entry r .entering) rs
+      ≡ sumOf (λ r. entry r .entering .0) rs
   pub leaving :
       sumOf (λ r. gramsAdded (streamOf r)) rs + heatIn rs 0 + sumOf (λ r. onlyAt 0 (to r) (creditOf r)) rs + powerIn rs 0
-      ≡ sumOf (λ r. entry r .leaving) rs
-  pub lost : uncredited rs ≡ sumOf (λ r. entry r .lost) rs
+      ≡ sumOf (λ r. entry r .leaving .0) rs
+  pub lost : uncredited rs ≡ sumOf (λ r. entry r .lost .0) rs
 
 pub figures : (i : ℕ) (rs : List Record) → Figures i rs
 unfolding sumOf heatIn heatOut gasCharged gasCredited powerIn powerOut boughtDirect boughtIndirect uncredited
@@ -214,7 +143,7 @@ balance-is rs i =
     let f = figures i rs in
     rw (ofℤ-diff (streamAt i) rs, diff-plus, diff-minus, diff-plus, diff-minus, diff-minus) (ap₂ diff (f .added) (f .taken))
 
-pub entered-is : (rs : List Record) → entered rs ≡ diff (sumOf (λ r. entry r .entering) rs) (sumOf (λ r. entry r .leaving) rs)
+pub entered-is : (rs : List Record) → entered rs ≡ diff (sumOf (λ r. entry r .entering .0) rs) (sumOf (λ r. entry r .leaving .0) rs)
 unfolding entered
 entered-is rs =
     let f = figures 0 rs in
@@ -242,9 +171,9 @@ pub record Even (n : ℕ) (e : Entry) : Type 0 where
   pub user-in : e .user ≤ n
   pub buyer-in : e .buyer ≤ n
   pub even :
-      (e .charge - onlyAt 0 (e .charged) (e .charge)) + (e .power - onlyAt 0 (e .user) (e .power))
-      + (e .direct - onlyAt 0 (e .buyer) (e .direct)) + (e .indirect - onlyAt 0 (e .buyer) (e .indirect)) + e .leaving
-      ≡ (e .credit - onlyAt 0 (e .credited) (e .credit)) + e .entering + e .lost
+      (e .charge .0 - onlyAt 0 (e .charged) (e .charge .0)) + (e .power .0 - onlyAt 0 (e .user) (e .power .0))
+      + (e .direct .0 - onlyAt 0 (e .buyer) (e .direct .0)) + (e .indirect .0 - onlyAt 0 (e .buyer) (e .indirect .0)) + e .leaving .0
+      ≡ (e .credit .0 - onlyAt 0 (e .credited) (e .credit .0)) + e .entering .0 + e .lost .0
 
 -- a transfer of waste gas: its receiver is charged more than its sender is credited
 gas-even : (f t charge credit : ℕ) → (f ≡ t → ⊥) → credit < charge

@@ -21,7 +21,8 @@ use Rattle.reckoner.specs.Attribution.{chargeOf, creditOf, gramsAdded, b
 use Rattle.reckoner.specs.Reckoning.{processCount, totalLeft, entered, totalRaised, uncredited}
 use Rattle.reckoner.proofs.Differences.{diff, diff-pos, diff-eq, diff-inj, diff-ge, diff-lt}
 use Rattle.goods.proofs.Sums.{sum-zero-at, sum-zero-all}
-use Rattle.reckoner.proofs.Entries.{recordIs, entry, Valid, figures, entered-is}
+use Rattle.reckoner.specs.Entries.{entry}
+use Rattle.reckoner.proofs.Entries.{recordIs, Valid, figures, entered-is}
 use Rattle.reckoner.proofs.Valid.{Accepted}
 use Rattle.reckoner.proofs.Works.{conserved}
 
@@ -52,7 +53,7 @@ lost-none f t charge credit lt = go (eqb 0 f) refl (eqb 0 t) refl
         (λ e x y. omega arith, λ h. absurd (h (omega arith) (omega arith)))
 
 lost-zero : (n : ℕ) (k : Kind) (said : List Field) → Valid n (recordIs k said)
-    → (entry (recordIs k said) .lost ≡ 0) ↔ (¬ GasBetween (recordIs k said))
+    → (entry (recordIs k said) .lost .0 ≡ 0) ↔ (¬ GasBetween (recordIs k said))
 unfolding chargeOf creditOf
 lost-zero n Process said v = (λ e g. never (g .gas), λ h. refl)
 lost-zero n SourceStream said v = (λ e g. never (g .gas), λ h. refl)
@@ -66,7 +67,7 @@ lost-zero n BoughtPrecursor said v = (λ e g. never (g .gas), λ h. refl)
 lost-zero n OwnGood said v = (λ e g. never (g .gas), λ h. refl)
 lost-zero n Unknown said v = absurd v
 
-lost-all : (n : ℕ) (rs : List Record) → All (Valid n) rs → (sumOf (λ r. entry r .lost) rs ≡ 0) ↔ All (λ r. ¬ GasBetween r) rs
+lost-all : (n : ℕ) (rs : List Record) → All (Valid n) rs → (sumOf (λ r. entry r .lost .0) rs ≡ 0) ↔ All (λ r. ¬ GasBetween r) rs
 unfolding sumOf
 lost-all n [] v = (λ e. tt, λ h. refl)
 lost-all n (r ∷ rs) v =

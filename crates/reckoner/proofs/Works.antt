@@ -16,7 +16,8 @@ use Rattle.reckoner.proofs.Differences.{diff-pos, diff-plus, diff-eq, r
 use Rattle.goods.proofs.Sums.{sum-add, sum-ext, at-sum}
 use Rattle.reckoner.proofs.Sums.{sum-swap}
 use Rattle.goods.proofs.Pools.{left-sum}
-use Rattle.reckoner.proofs.Entries.{entry, plus, minus, Valid, Even, valid-even, figures, balance-is, entered-is, forward}
+use Rattle.reckoner.specs.Entries.{entry}
+use Rattle.reckoner.proofs.Entries.{plus, minus, Valid, Even, valid-even, figures, balance-is, entered-is, forward}
 use Rattle.reckoner.proofs.Valid.{Accepted}
 
 -- ---- raising: direct + what is taken = raised + what is added
@@ -32,35 +33,35 @@ raised-is rs k = ap gramsAdded (balance-is rs k) ∙ added-diff _ _
 -- ---- all entries in all processes
 
 abbrev used : (k : ℕ) → Record → ℕ
-used k r = onlyAt k (entry r .user) (entry r .power)
+used k r = onlyAt k (entry r .user) (entry r .power .0)
 
 abbrev boughtD : (k : ℕ) → Record → ℕ
-boughtD k r = onlyAt k (entry r .buyer) (entry r .direct)
+boughtD k r = onlyAt k (entry r .buyer) (entry r .direct .0)
 
 abbrev boughtI : (k : ℕ) → Record → ℕ
-boughtI k r = onlyAt k (entry r .buyer) (entry r .indirect)
+boughtI k r = onlyAt k (entry r .buyer) (entry r .indirect .0)
 
 -- a figure of one record over processes 1 .. n
 unfoldable over : ℕ → (ℕ → Record → ℕ) → Record → ℕ
 over n f r = sumTo n (λ k. f k r)
 
 each : (n : ℕ) (r : Record) → Even n (entry r)
-    → over n plus r + over n used r + over n boughtD r + over n boughtI r + entry r .leaving ≡ over n minus r + entry r .entering + entry r .lost
+    → over n plus r + over n used r + over n boughtD r + over n boughtI r + entry r .leaving .0 ≡ over n minus r + entry r .entering .0 + entry r .lost .0
 unfolding over
 each n r e =
     omega (
       arith,
       e .even,
-      at-sum n (entry r .charged) (entry r .charge) (e .charged-in),
-      at-sum n (entry r .credited) (entry r .credit) (e .credited-in),
-      at-sum n (entry r .user) (entry r .power) (e .user-in),
-      at-sum n (entry r .buyer) (entry r .direct) (e .buyer-in),
-      at-sum n (entry r .buyer) (entry r .indirect) (e .buyer-in),
+      at-sum n (entry r .charged) (entry r .charge .0) (e .charged-in),
+      at-sum n (entry r .credited) (entry r .credit .0) (e .credited-in),
+      at-sum n (entry r .user) (entry r .power .0) (e .user-in),
+      at-sum n (entry r .buyer) (entry r .direct .0) (e .buyer-in),
+      at-sum n (entry r .buyer) (entry r .indirect .0) (e .buyer-in),
     )
 
 all-even : (n : ℕ) (rs : List Record) → All (Valid n) rs
-    → sumOf (over n plus) rs + sumOf (over n used) rs + sumOf (over n boughtD) rs + sumOf (over n boughtI) rs + sumOf (λ r. entry r .leaving) rs
-    ≡ sumOf (over n minus) rs + sumOf (λ r. entry r .entering) rs + sumOf (λ r. entry r .lost) rs
+    → sumOf (over n plus) rs + sumOf (over n used) rs + sumOf (over n boughtD) rs + sumOf (over n boughtI) rs + sumOf (λ r. entry r .leaving .0) rs
+    ≡ sumOf (over n minus) rs + sumOf (λ r. entry r .entering .0) rs + sumOf (λ r. entry r .lost .0) rs
 unfolding sumOf
 all-even n [] v = refl
 all-even n (r ∷ rs) v = let a = each n r (valid-even n r (v .0)) in let b = all-even n rs (v .1) in omega arith
@@ -78,8 +79,8 @@ module _ (rs : List Record) (ok : Accepted rs) where
       ∙ sum-add n (raised rs) (λ k. sumOf (plus k) rs)
 
   -- all that goes into the pools
-  into-pools : sumTo n (λ k. direct rs k + boughtDirect rs k) + sumTo n (λ k. indirect rs k + boughtIndirect rs k) + sumOf (λ r. entry r .leaving) rs
-      ≡ sumOf (λ r. entry r .entering) rs + totalRaised rs + uncredited rs
+  into-pools : sumTo n (λ k. direct rs k + boughtDirect rs k) + sumTo n (λ k. indirect rs k + boughtIndirect rs k) + sumOf (λ r. entry r .leaving .0) rs
+      ≡ sumOf (λ r. entry r .entering .0) rs + totalRaised rs + uncredited rs
   unfolding totalRaised indirect over
   into-pools =
       omega (
@@ -99,7 +100,7 @@ module _ (rs : List Record) (ok : Accepted rs) where
         figures 0 rs .lost,
       )
 
-  pub conserved : totalLeft rs + sumOf (λ r. entry r .leaving) rs ≡ sumOf (λ r. entry r .entering) rs + totalRaised rs + uncredited rs
+  pub conserved : totalLeft rs + sumOf (λ r. entry r .leaving .0) rs ≡ sumOf (λ r. entry r .entering .0) rs + totalRaised rs + uncredited rs
   unfolding totalLeft directLeft indirectLeft
   conserved =
       omega (

@@ -1,0 +1,69 @@
+-- Each line as one entry, which the code books: the grams it moves between processes, and what of them enters the works, leaves it and
+-- stays uncredited. Process 0 is outside the works. Laws join it to Attribution and Reckoning; nothing here adds to document 01's meaning.
+use mathlib.Core.Bool.{cond, _||_}
+use Prim.Native.Nat.{ℕ, _+_, _-_}
+use lib.Dec.{eqb}
+use Rattle.quantity.specs.declared.Grams.{Grams}
+use Rattle.lines.specs.Records.{Record}
+use Rattle.lines.specs.declared.Kind.{Kind}
+use Rattle.lines.specs.declared.Kind.the-variants.{Process, SourceStream, Heat, WasteGas, Power, BoughtPrecursor, OwnGood, Unknown}
+use Rattle.sheet.specs.Refusals.{process, from, to}
+use Rattle.goods.specs.Sums.{onlyAt}
+use Rattle.reckoner.specs.Attribution.{streamOf, heatOf, chargeOf, creditOf, powerOf, boughtDirectOf, boughtIndirectOf, raisedToZero, gramsAdded}
+use Rattle.reckoner.specs.declared.Entry.{Entry}
+
+abbrev pub grams : ℕ → Grams
+grams n = record { 0 = n }
+
+abbrev pub moved : (charged charge credited credit user power entering leaving lost : ℕ) → Entry
+moved charged charge credited credit user power entering leaving lost = record {
+  charged = charged;
+  charge = grams charge;
+  credited = credited;
+  credit = grams credit;
+  user = user;
+  power = grams power;
+  buyer = 0;
+  direct = grams 0;
+  indirect = grams 0;
+  entering = grams entering;
+  leaving = grams leaving;
+  lost = grams lost;
+}
+
+abbrev pub bought : (buyer direct indirect : ℕ) → Entry
+bought buyer direct indirect = record {
+  charged = 0;
+  charge = grams 0;
+  credited = 0;
+  credit = grams 0;
+  user = 0;
+  power = grams 0;
+  buyer = buyer;
+  direct = grams direct;
+  indirect = grams indirect;
+  entering = grams (direct + indirect);
+  leaving = grams 0;
+  lost = grams 0;
+}
+
+-- charge minus credit, where neither end is outside
+abbrev pub betweenProcesses : Record → (grams : ℕ) → ℕ
+betweenProcesses r grams = cond (eqb 0 (from r) || eqb 0 (to r)) 0 grams
+
+-- the entry of each kind of line
+abbrev pub entryOf : Kind → Record → Entry
+entryOf Process r = moved 0 0 0 0 0 0 0 0 0
+entryOf SourceStream r =
+    moved (process r) (raisedToZero (streamOf r)) (process r) (gramsAdded (streamOf r)) 0 0 (raisedToZero (streamOf r)) (gramsAdded (streamOf r)) 0
+entryOf Heat r = moved (to r) (heatOf r) (from r) (heatOf r) 0 0 (onlyAt 0 (from r) (heatOf r)) (onlyAt 0 (to r) (heatOf r)) 0
+entryOf WasteGas r =
+    moved (to r) (chargeOf r) (from r) (creditOf r) 0 0 (onlyAt 0 (from r) (chargeOf r)) (onlyAt 0 (to r) (creditOf r))
+    (betweenProcesses r (chargeOf r - creditOf r))
+entryOf Power r = moved 0 0 (from r) (powerOf r) (to r) (powerOf r) (onlyAt 0 (from r) (powerOf r)) (onlyAt 0 (to r) (powerOf r)) 0
+entryOf BoughtPrecursor r = bought (process r) (boughtDirectOf r) (boughtIndirectOf r)
+entryOf OwnGood r = moved 0 0 0 0 0 0 0 0 0
+entryOf Unknown r = moved 0 0 0 0 0 0 0 0 0
+
+abbrev pub entry : Record → Entry
+entry r = entryOf (r .kind) r
