@@ -7,3 +7,4 @@ pub mod Valid
 pub mod Works
 pub mod Exact
 pub mod Sheet
+pub mod Bounds

@@ -1,0 +1,66 @@
+-- THE BOUND: what goes into all pools is at most what the lines put into processes, and what is raised at most what they take from them.
+-- Stated over entries, for any kinds of lines. Assumes nothing.
+use mathlib.Core.Path.{_≡_, refl, sym, ap, _∙_}
+use mathlib.Core.List.{List, [], _∷_}
+use Prim.Native.Nat.{ℕ, _+_, _*_, _≤_}
+use native.Mathlib.Omega.{arith}
+use lib.ListN.{length}
+use Rattle.lines.specs.Records.{Record}
+use Rattle.sheet.specs.Refusals.{sumOf}
+use Rattle.sheet.proofs.First.{All}
+use Rattle.goods.specs.Sums.{sumTo, onlyAt}
+use Rattle.goods.proofs.Sums.{sum-add, sum-ext, sum-le, at-sum-le}
+use Rattle.reckoner.specs.Attribution.{direct, indirect, raised, boughtDirect, boughtIndirect}
+use Rattle.reckoner.specs.Reckoning.{processCount, totalRaised}
+use Rattle.reckoner.specs.Entries.{entry}
+use Rattle.reckoner.proofs.Sums.{of-add, of-le, sum-swap}
+use Rattle.reckoner.proofs.Entries.{plus, minus, figures}
+use Rattle.reckoner.proofs.Works.{direct-is, raised-is}
+
+-- the grams that a line puts into processes, and those that it takes from them
+abbrev pub intoProcesses : Record → ℕ
+intoProcesses r = entry r .charge .0 + entry r .power .0 + entry r .direct .0 + entry r .indirect .0
+
+abbrev pub outOfProcesses : Record → ℕ
+outOfProcesses r = entry r .credit .0
+
+-- an amount at one process, over all processes and all lines
+over-all : (n : ℕ) (p amount : Record → ℕ) (rs : List Record)
+    → sumTo n (λ k. sumOf (λ r. onlyAt k (p r) (amount r)) rs) ≤ sumOf amount rs
+over-all n p amount rs = rw (sum-swap n (λ k r. onlyAt k (p r) (amount r)) rs) (of-le _ _ rs (λ r. at-sum-le n (p r) (amount r)))
+
+pub into-pools-le : (n : ℕ) (rs : List Record)
+    → sumTo n (λ k. direct rs k + boughtDirect rs k) + sumTo n (λ k. indirect rs k + boughtIndirect rs k) ≤ sumOf intoProcesses rs
+unfolding indirect
+into-pools-le n rs =
+    omega (
+      arith,
+      sum-add n (direct rs) (boughtDirect rs),
+      sum-add n (indirect rs) (boughtIndirect rs),
+      sum-le n (direct rs) (λ k. sumOf (plus k) rs) (λ k l h. omega (arith, direct-is rs k)),
+      sum-ext n (indirect rs) (λ k. sumOf (λ r. onlyAt k (entry r .user) (entry r .power .0)) rs) (λ k. figures k rs .used),
+      sum-ext n (boughtDirect rs) (λ k. sumOf (λ r. onlyAt k (entry r .buyer) (entry r .direct .0)) rs) (λ k. figures k rs .direct),
+      sum-ext n (boughtIndirect rs) (λ k. sumOf (λ r. onlyAt k (entry r .buyer) (entry r .indirect .0)) rs) (λ k. figures k rs .indirect),
+      over-all n (λ r. entry r .charged) (λ r. entry r .charge .0) rs,
+      over-all n (λ r. entry r .user) (λ r. entry r .power .0) rs,
+      over-all n (λ r. entry r .buyer) (λ r. entry r .direct .0) rs,
+      over-all n (λ r. entry r .buyer) (λ r. entry r .indirect .0) rs,
+      of-add (λ r. entry r .charge .0) (λ r. entry r .power .0) rs,
+      of-add (λ r. entry r .charge .0 + entry r .power .0) (λ r. entry r .direct .0) rs,
+      of-add (λ r. entry r .charge .0 + entry r .power .0 + entry r .direct .0) (λ r. entry r .indirect .0) rs,
+    )
+
+pub raised-le : (rs : List Record) → totalRaised rs ≤ sumOf outOfProcesses rs
+unfolding totalRaised
+raised-le rs =
+    omega (
+      arith,
+      sum-le (processCount rs) (raised rs) (λ k. sumOf (minus k) rs) (λ k l h. omega (arith, raised-is rs k)),
+      over-all (processCount rs) (λ r. entry r .credited) (λ r. entry r .credit .0) rs,
+    )
+
+-- a figure of at most `step` a line
+pub sum-within : (step : ℕ) (f : Record → ℕ) (rs : List Record) → All (λ r. f r ≤ step) rs → sumOf f rs ≤ length rs * step
+unfolding sumOf
+sum-within step f [] h = omega arith
+sum-within step f (r ∷ rs) h = omega (arith, h .0, sum-within step f rs (h .1))
