@@ -2,3 +2,6 @@
 pub mod Cases
 pub mod Rounding
 pub mod Weights
+pub mod Methods
+pub mod Tables
+pub mod Division

@@ -3,4 +3,5 @@ pub mod Rounding
 pub mod Streams
 pub mod Standard
 pub mod Weights
+pub mod Ranges
 pub mod Cases

@@ -1,0 +1,20 @@
+use borrow.Author.Needs.{needs}
+use native.Mathlib.Omega.{arith}
+use Rattle.quantity.specs.Rounding.{round}
+use Rattle.quantity.proofs.round_ten_thousandths.Statement.{statement}
+use Rattle.quantity.proofs.round_ten_thousandths.Tie as tie
+use Rattle.quantity.proofs.round_ten_thousandths.Reads as reads
+use Rattle.quantity.proofs.round_ten_thousandths.Lts as lts
+
+mul-result : tie.Need-mul-result
+mul-result c = search needs
+
+add-result : tie.Need-add-result
+add-result c = search needs
+
+returns : tie.Need-returns
+unfolding round
+returns c = (omega arith, omega arith)
+
+pub round-ten-thousandths-spec : {M : Type 1} → statement M
+round-ten-thousandths-spec = tie.close (tie.spec mul-result add-result returns)

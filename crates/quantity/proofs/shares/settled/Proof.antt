@@ -1,0 +1,23 @@
+use borrow.Author.Needs.{needs}
+use native.Mathlib.Omega.{arith}
+use Rattle.quantity.proofs.Division.{one-more, taken-off, left-below}
+use Rattle.quantity.proofs.shares.settled.Statement.{statement}
+use Rattle.quantity.proofs.shares.settled.Tie as tie
+use Rattle.quantity.proofs.shares.settled.Reads as reads
+use Rattle.quantity.proofs.shares.settled.Lts as lts
+
+returns : tie.Need-returns
+returns c = search needs
+
+add-t4 : tie.Need-add-t4
+add-t4 c =
+    let s = c .before .before .before in
+    record { fits = one-more (s .args .d .quotient) (s .args .d .remainder) (s .args .whole) (c .before .if1 .left) (s .pre .1) }
+
+returns-2 : tie.Need-returns-2
+returns-2 c =
+    let s = c .before .before .before .before in
+    (taken-off (s .args .d .quotient) (s .args .d .remainder) (s .args .whole) (c .before .before .if1 .left), left-below (s .args .d .remainder) (s .args .whole) (c .before .before .if1 .left) (s .pre .0))
+
+pub settled-spec : {M : Type 1} → statement M
+settled-spec = tie.close (tie.spec returns add-t4 returns-2)

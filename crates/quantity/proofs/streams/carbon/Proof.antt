@@ -1,0 +1,21 @@
+use native.Mathlib.Nat.{mul-le-mul}
+use native.Mathlib.Omega.{arith}
+use Rattle.quantity.specs.Streams.{carbonGrams}
+use Rattle.quantity.proofs.streams.carbon.Statement.{statement}
+use Rattle.quantity.proofs.streams.carbon.Tie as tie
+use Rattle.quantity.proofs.streams.carbon.Reads as reads
+use Rattle.quantity.proofs.streams.carbon.Lts as lts
+use Rattle.quantity.proofs.round_thousandths.Reads as round-thousandths-reads
+
+round-thousandths-requires : tie.Need-round-thousandths-requires
+round-thousandths-requires c κs = omega (arith, mul-le-mul (c .pre .mass) (c .pre .content))
+
+round-thousandths-requires-2 : tie.Need-round-thousandths-requires-2
+round-thousandths-requires-2 c κs = omega (arith, mul-le-mul (c .before .pre .mass) (c .before .pre .content))
+
+returns : tie.Need-returns
+unfolding carbonGrams
+returns c = ((cc), omega (arith, mul-le-mul (c .before .before .pre .mass) (c .before .before .pre .content)))
+
+pub carbon-spec : {M : Type 1} → statement M
+carbon-spec = tie.close (tie.spec round-thousandths-requires round-thousandths-requires-2 returns)

@@ -1,0 +1,23 @@
+use borrow.Author.Needs.{needs}
+use native.Mathlib.Omega.{arith}
+use mathlib.Core.Path.{_≡_}
+use Rattle.quantity.specs.Weights.{wasteGasCredit}
+use Rattle.quantity.proofs.weighing.gas_credit.Statement.{statement}
+use Rattle.quantity.proofs.weighing.gas_credit.Tie as tie
+use Rattle.quantity.proofs.weighing.gas_credit.Reads as reads
+use Rattle.quantity.proofs.weighing.gas_credit.Lts as lts
+use Rattle.quantity.proofs.round_thousandths.Reads as round-thousandths-reads
+use Rattle.quantity.proofs.weighing.gas_charge.Reads as gas-charge-reads
+
+gas-charge-requires : tie.Need-gas-charge-requires
+gas-charge-requires c κs = search needs
+
+round-thousandths-requires : tie.Need-round-thousandths-requires
+round-thousandths-requires c κs = search needs
+
+returns : tie.Need-returns
+unfolding wasteGasCredit
+returns c = ((cc), omega arith)
+
+pub gas-credit-spec : {M : Type 1} → statement M
+gas-credit-spec = tie.close (tie.spec gas-charge-requires round-thousandths-requires returns)

@@ -1,0 +1,17 @@
+use borrow.Author.Needs.{needs}
+use Rattle.quantity.specs.Weights.{weight}
+use Rattle.quantity.proofs.weighing.weighed.Statement.{statement}
+use Rattle.quantity.proofs.weighing.weighed.Tie as tie
+use Rattle.quantity.proofs.weighing.weighed.Reads as reads
+use Rattle.quantity.proofs.weighing.weighed.Lts as lts
+use Rattle.quantity.proofs.round_thousandths.Reads as round-thousandths-reads
+
+round-thousandths-requires : tie.Need-round-thousandths-requires
+round-thousandths-requires c κs = search needs
+
+returns : tie.Need-returns
+unfolding weight
+returns c = search needs
+
+pub weighed-spec : {M : Type 1} → statement M
+weighed-spec = tie.close (tie.spec round-thousandths-requires returns)
