@@ -1,3 +1,5 @@
 -- Laws that the crates above cite.
 pub mod ReadBack
 pub mod InRange
+pub mod KindWords
+pub mod StreamWords

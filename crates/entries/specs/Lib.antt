@@ -1,2 +1,3 @@
--- Document 01, "Source streams" and "Attribution": the grams of one line.
+-- Document 01, "Source streams" and "Attribution": the grams of one line, and its entry.
+pub mod Weighed
 pub mod Read
