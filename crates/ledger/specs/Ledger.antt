@@ -2,7 +2,8 @@
 use mathlib.Core.List.{List}
 use Prim.Native.Nat.{ℕ, _+_, _≤_, _<_}
 use lib.IntN.{ℤ, pos, natAbs, _+ℤ_, _-ℤ_}
-use lib.ListN.{getD, set, replicate}
+use mathlib.Core.Path.{_≡_}
+use lib.ListN.{length, getD, set, replicate}
 use Rattle.ledger.specs.declared.Entry.{Entry}
 use Rattle.ledger.specs.declared.Ledger.{Ledger}
 
@@ -80,3 +81,10 @@ pub record Within (k : ℕ) (l : Ledger) : Type 0 where
 -- there is room for one entry more: all figures stay below 2^63
 abbrev pub Room : Ledger → Type 0
 Room l = Within 9200000000000000000 l
+
+-- every array has all its places
+pub record Sized (l : Ledger) : Type 0 where
+  pub balances : length (l .balances) ≡ SIZE
+  pub indirect : length (l .indirect) ≡ SIZE
+  pub bought-direct : length (l .«bought_direct») ≡ SIZE
+  pub bought-indirect : length (l .«bought_indirect») ≡ SIZE

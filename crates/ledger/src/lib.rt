@@ -1,8 +1,8 @@
 // The figures of a works while its lines are read: document 01, "Attribution". Each line is booked as one entry.
 ghost use mathlib.Core.Path.{_≡_};
-ghost use lib.IntN.{natAbs};
+ghost use lib.IntN.{pos, natAbs, _+ℤ_, _-ℤ_};
 ghost use Prim.Native.Nat.{_≤_};
-ghost use Rattle.ledger.specs.Ledger.{Room, Small, balanced, booked, start};
+ghost use Rattle.ledger.specs.Ledger.{STEP, Room, Small, balanced, booked, start};
 use quantity::Grams;
 
 pub const SIZE: usize = 17;
@@ -50,6 +50,26 @@ pub fn empty() -> Ledger
     }
 }
 
+// A signed figure with grams added.
+fn plus(held: i64, amount: Grams) -> i64
+    requires { ⌜ natAbs held ≤ 9210000000000000000 ⌝ }
+    requires { ⌜ amount .0 ≤ STEP ⌝ }
+    ensures { λ r. ⌜ r ≡ held +ℤ pos (amount .0) ⌝ }
+{
+    let grams = amount.0;
+    held + (grams as i64)
+}
+
+// A signed figure with grams taken off.
+fn minus(held: i64, amount: Grams) -> i64
+    requires { ⌜ natAbs held ≤ 9210000000000000000 ⌝ }
+    requires { ⌜ amount .0 ≤ STEP ⌝ }
+    ensures { λ r. ⌜ r ≡ held -ℤ pos (amount .0) ⌝ }
+{
+    let grams = amount.0;
+    held - (grams as i64)
+}
+
 // The balances with the charge added and the credit taken off.
 fn with_balances(l: Ledger, e: Entry) -> Ledger
     requires { ⌜ Room l ⌝ }
@@ -58,13 +78,13 @@ fn with_balances(l: Ledger, e: Entry) -> Ledger
 {
     let mut next = l;
     let to = e.charged;
-    let from = e.credited;
-    let charge = e.charge.0 as i64;
-    let credit = e.credit.0 as i64;
+    let charge = e.charge;
     let held = next.balances[to];
-    next.balances[to] = held + charge;
+    next.balances[to] = plus(held, charge);
+    let from = e.credited;
+    let credit = e.credit;
     let kept = next.balances[from];
-    next.balances[from] = kept - credit;
+    next.balances[from] = minus(kept, credit);
     next
 }
 
@@ -80,7 +100,10 @@ pub fn book(l: Ledger, e: Entry) -> Ledger
     next.indirect[user] += e.power.0;
     next.bought_direct[buyer] += e.direct.0;
     next.bought_indirect[buyer] += e.indirect.0;
-    next.entered = next.entered + (e.entering.0 as i64) - (e.leaving.0 as i64);
+    let entering = e.entering;
+    let leaving = e.leaving;
+    let entered = plus(next.entered, entering);
+    next.entered = minus(entered, leaving);
     next.uncredited += e.lost.0;
     next
 }

@@ -1,0 +1,4 @@
+-- Laws of the ledger, for the crates above.
+pub mod Sizes
+pub mod Bounds
+pub mod Places
