@@ -27,7 +27,7 @@ module _ {A : Type 0} (P : A → Type 0) (d : A) where
         | no n ↦ rw (getD-set-other l i j v d n) (all j)
       ]
 
-  each-same : P d → (n j : ℕ) → P (getD (replicate n d) j d)
+  pub each-same : P d → (n j : ℕ) → P (getD (replicate n d) j d)
   each-same p zero j = p
   each-same p (suc n) zero = p
   each-same p (suc n) (suc j) = each-same p n j
