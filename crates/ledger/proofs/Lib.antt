@@ -1,0 +1,6 @@
+-- Laws of the ledger, for the crates above.
+pub mod Sizes
+pub mod Bounds
+pub mod Places
+pub mod Raising
+pub mod Columns

@@ -1,0 +1,69 @@
+-- What each place holds after an entry is booked. Assumes nothing.
+use mathlib.Core.Path.{_≡_, refl, sym, ap, _∙_}
+use mathlib.Core.List.{List}
+use Prim.Native.Nat.{ℕ, _+_, _<_}
+use native.Mathlib.Decide.{ℕ-discrete}
+use native.Mathlib.Omega.{arith}
+use lib.IntN.{ℤ, pos, _+ℤ_, _-ℤ_, +ℤ-idr}
+use lib.ListN.{length, getD, set, length-set}
+use lib.Seq.{getD-set-same, getD-set-other}
+use Rattle.goods.specs.Sums.{onlyAt}
+use Rattle.goods.proofs.Sums.{at-same, at-other}
+use Rattle.ledger.specs.declared.Entry.{Entry}
+use Rattle.ledger.specs.declared.Ledger.{Ledger}
+use Rattle.ledger.specs.Ledger.{added, chargedAndCredited, booked, Small, Sized}
+
+place-added : (l : List ℕ) (p amount i : ℕ) → p < length l → getD (added l p amount) i 0 ≡ getD l i 0 + onlyAt i p amount
+place-added l p amount i h =
+    elim (ℕ-discrete i p) [
+      | yes e ↦ rw (e, getD-set-same l p (getD l p 0 + amount) 0 h, at-same)
+      | no n ↦ rw (getD-set-other l p i (getD l p 0 + amount) 0 n) (omega (arith, at-other i p amount n))
+    ]
+
+place-charged : (b : List ℤ) (p amount i : ℕ) → p < length b
+    → getD (set b p (getD b p (pos 0) +ℤ pos amount)) i (pos 0) ≡ getD b i (pos 0) +ℤ pos (onlyAt i p amount)
+place-charged b p amount i h =
+    elim (ℕ-discrete i p) [
+      | yes e ↦ rw (e, getD-set-same b p (getD b p (pos 0) +ℤ pos amount) (pos 0) h, at-same)
+      | no n ↦ rw (getD-set-other b p i (getD b p (pos 0) +ℤ pos amount) (pos 0) n, at-other i p amount n) (sym (+ℤ-idr _))
+    ]
+
+place-credited : (b : List ℤ) (p amount i : ℕ) → p < length b
+    → getD (set b p (getD b p (pos 0) -ℤ pos amount)) i (pos 0) ≡ getD b i (pos 0) -ℤ pos (onlyAt i p amount)
+place-credited b p amount i h =
+    elim (ℕ-discrete i p) [
+      | yes e ↦ rw (e, getD-set-same b p (getD b p (pos 0) -ℤ pos amount) (pos 0) h, at-same)
+      | no n ↦ rw (getD-set-other b p i (getD b p (pos 0) -ℤ pos amount) (pos 0) n, at-other i p amount n) (sym (+ℤ-idr _))
+    ]
+
+place-balance : (b : List ℤ) (charged charge credited credit i : ℕ) → charged < length b → credited < length b
+    → getD (chargedAndCredited b charged charge credited credit) i (pos 0)
+    ≡ getD b i (pos 0) +ℤ pos (onlyAt i charged charge) -ℤ pos (onlyAt i credited credit)
+unfolding chargedAndCredited
+place-balance b charged charge credited credit i h g =
+    let c : List ℤ = set b charged (getD b charged (pos 0) +ℤ pos charge) in
+    place-credited c credited credit i (simp length-set g)
+    ∙ ap (λ (z : ℤ). z -ℤ pos (onlyAt i credited credit)) (place-charged b charged charge i h)
+
+module _ (l : Ledger) (e : Entry) (s : Sized l) (m : Small e) (i : ℕ) where
+  -- charged and credited may be one place
+  pub balance-booked : getD (booked l e .balances) i (pos 0)
+      ≡ getD (l .balances) i (pos 0) +ℤ pos (onlyAt i (e .charged) (e .charge .0)) -ℤ pos (onlyAt i (e .credited) (e .credit .0))
+  unfolding booked
+  balance-booked =
+      place-balance (l .balances) (e .charged) (e .charge .0) (e .credited) (e .credit .0) i
+      (rw (s .balances) (m .charged-in)) (rw (s .balances) (m .credited-in))
+
+  pub indirect-booked : getD (booked l e .indirect) i 0 ≡ getD (l .indirect) i 0 + onlyAt i (e .user) (e .power .0)
+  unfolding booked
+  indirect-booked = place-added (l .indirect) (e .user) (e .power .0) i (rw (s .indirect) (m .user-in))
+
+  pub bought-direct-booked : getD (booked l e .«bought_direct») i 0
+      ≡ getD (l .«bought_direct») i 0 + onlyAt i (e .buyer) (e .direct .0)
+  unfolding booked
+  bought-direct-booked = place-added (l .«bought_direct») (e .buyer) (e .direct .0) i (rw (s .bought-direct) (m .buyer-in))
+
+  pub bought-indirect-booked : getD (booked l e .«bought_indirect») i 0
+      ≡ getD (l .«bought_indirect») i 0 + onlyAt i (e .buyer) (e .indirect .0)
+  unfolding booked
+  bought-indirect-booked = place-added (l .«bought_indirect») (e .buyer) (e .indirect .0) i (rw (s .bought-indirect) (m .buyer-in))

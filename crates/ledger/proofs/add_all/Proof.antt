@@ -1,0 +1,75 @@
+use mathlib.Core.Path.{_≡_, refl}
+use Prim.Native.Nat.{_+_, _-_, _≤_, _<_}
+use native.Mathlib.Omega.{arith}
+use borrow.Author.Needs.{needs}
+use lib.ListN.{getD}
+use Rattle.ledger.specs.Columns.{Column}
+use Rattle.ledger.proofs.Columns.{column-none, column-more}
+use Rattle.ledger.proofs.add_all.Statement.{statement}
+use Rattle.ledger.proofs.add_all.Tie as tie
+use Rattle.ledger.proofs.add_all.Reads as reads
+use Rattle.ledger.proofs.add_all.Lts as lts
+
+abbrev Inv-loop : tie.InvT-loop
+Inv-loop count a b both₀ done₀ both done = 
+    (done ≤ count) × (Column done (λ k. getD a k 0 + getD b k 0) both)
+
+abbrev μ-loop : tie.MeasureT-loop
+μ-loop count a b both₀ done₀ both done = count - done
+
+loop-holds : tie.Need-loop-holds Inv-loop μ-loop
+loop-holds c = (omega arith, column-none _)
+
+add-k : tie.Need-add-k Inv-loop μ-loop
+add-k c = search needs
+
+mul-both : tie.Need-mul-both Inv-loop μ-loop
+mul-both c = search needs
+
+array-read-both : tie.Need-array-read-both Inv-loop μ-loop
+array-read-both c = search needs
+
+mul-both-2 : tie.Need-mul-both-2 Inv-loop μ-loop
+mul-both-2 c = search needs
+
+array-read-both-2 : tie.Need-array-read-both-2 Inv-loop μ-loop
+array-read-both-2 c = search needs
+
+add-both : tie.Need-add-both Inv-loop μ-loop
+add-both c = record { fits = c .before .before .pre .1 (c .before .loop .done + 1) (omega arith) (omega arith) }
+
+mul-both-3 : tie.Need-mul-both-3 Inv-loop μ-loop
+mul-both-3 c = search needs
+
+array-write-both : tie.Need-array-write-both Inv-loop μ-loop
+array-write-both c = search needs
+
+loop-less : tie.Need-loop-less Inv-loop μ-loop
+loop-less c = search needs
+
+loop-again : tie.Need-loop-again Inv-loop μ-loop
+loop-again c = (omega arith, column-more _ _ _ _ (omega arith) (c .before .loop .inv .1) refl)
+
+returns : tie.Need-returns Inv-loop μ-loop
+returns c =
+    let e : c .before .loop .done ≡ c .before .before .args .count = omega arith in
+    rw (← e) (c .before .loop .inv .1)
+
+pub add-all-spec : {M : Type 1} → statement M
+add-all-spec =
+    tie.close
+    (tie.spec
+    Inv-loop
+    μ-loop
+    loop-holds
+    add-k
+    mul-both
+    array-read-both
+    mul-both-2
+    array-read-both-2
+    add-both
+    mul-both-3
+    array-write-both
+    loop-less
+    loop-again
+    returns)

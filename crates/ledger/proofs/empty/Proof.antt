@@ -1,0 +1,13 @@
+use mathlib.Core.Path.{refl}
+use Rattle.ledger.specs.Ledger.{start}
+use Rattle.ledger.proofs.empty.Statement.{statement}
+use Rattle.ledger.proofs.empty.Tie as tie
+use Rattle.ledger.proofs.empty.Reads as reads
+use Rattle.ledger.proofs.empty.Lts as lts
+
+returns : tie.Need-returns
+unfolding start
+returns c = refl
+
+pub empty-spec : {M : Type 1} → statement M
+empty-spec = tie.close (tie.spec returns)

@@ -1,0 +1,118 @@
+use mathlib.Core.Path.{_≡_}
+use mathlib.Core.List.{List}
+use Prim.Native.Nat.{ℕ, _≤_}
+use native.Mathlib.Omega.{arith}
+use borrow.Author.Needs.{needs}
+use lib.IntN.{ℤ, pos, natAbs, _+ℤ_, _-ℤ_}
+use lib.ListN.{getD, set}
+use mir.Syntax.{w64}
+use mir.Val.{toZ, ofZ}
+use Rattle.ledger.specs.Ledger.{balanced, chargedAndCredited}
+use Rattle.ledger.proofs.Sizes.{kept, size-plus, size-minus}
+use Rattle.ledger.proofs.Bounds.{each-charged}
+use Rattle.ledger.proofs.with_balances.Statement.{statement}
+use Rattle.ledger.proofs.with_balances.Tie as tie
+use Rattle.ledger.proofs.with_balances.Reads as reads
+use Rattle.ledger.proofs.with_balances.Lts as lts
+use Rattle.ledger.proofs.minus.Reads as minus-reads
+use Rattle.ledger.proofs.plus.Reads as plus-reads
+
+-- the figures on the way, which all fit
+module _ (c : tie.Start) where
+  abbrev b : List ℤ
+  b = c .args .l .balances
+
+  abbrev held : ℤ
+  held = getD b (c .args .e .charged) (pos 0)
+
+  abbrev more : ℤ
+  more = held +ℤ pos (c .args .e .charge .0)
+
+  abbrev left : ℤ
+  left = getD (set b (c .args .e .charged) more) (c .args .e .credited) (pos 0)
+
+  abbrev less : ℤ
+  less = left -ℤ pos (c .args .e .credit .0)
+
+  held-fits : toZ w64 (ofZ w64 held) ≡ held
+  held-fits = kept held (omega (arith, c .pre .0 .balances (c .args .e .charged)))
+
+  more-small : natAbs more ≤ 9210000000000000000
+  more-small =
+      omega (arith, size-plus held (c .args .e .charge .0), c .pre .0 .balances (c .args .e .charged), c .pre .1 .moved)
+
+  more-fits : toZ w64 (ofZ w64 more) ≡ more
+  more-fits = kept more (omega (arith, more-small))
+
+  left-small : natAbs left ≤ 9210000000000000000
+  left-small =
+      omega (
+        arith,
+        each-charged 9200000000000000000 b (c .pre .0 .balances) (c .args .e .charged) (c .args .e .charge .0) (c .args .e .credited),
+        c .pre .1 .moved,
+      )
+
+  left-fits : toZ w64 (ofZ w64 left) ≡ left
+  left-fits = kept left (omega (arith, left-small))
+
+  less-fits : toZ w64 (ofZ w64 less) ≡ less
+  less-fits = kept less (omega (arith, size-minus left (c .args .e .credit .0), left-small, c .pre .1 .moved))
+
+plus-is : (c : tie.After-plus) → c .plus .result ≡ more (c .before .before .before)
+plus-is c = simp (held-fits (c .before .before .before)) at (c .plus .ensures)
+
+mul-held : tie.Need-mul-held
+mul-held c = search needs
+
+element-copy-out-held : tie.Need-element-copy-out-held
+element-copy-out-held c = search needs
+
+plus-requires : tie.Need-plus-requires
+plus-requires c κs =
+    let k = c .before .before in
+    simp (held-fits k) (omega (arith, k .pre .0 .balances (k .args .e .charged)), omega (arith, k .pre .1 .moved))
+
+mul-kept : tie.Need-mul-kept
+mul-kept c = search needs
+
+element-set-from-kept : tie.Need-element-set-from-kept
+element-set-from-kept c = search needs
+
+mul-kept-2 : tie.Need-mul-kept-2
+mul-kept-2 c = search needs
+
+element-copy-out-kept : tie.Need-element-copy-out-kept
+element-copy-out-kept c = search needs
+
+minus-requires : tie.Need-minus-requires
+minus-requires c κs =
+    let k = c .before .before .before .before .before in
+    simp (plus-is (c .before .before), more-fits k, left-fits k) (left-small k, omega (arith, k .pre .1 .moved))
+
+mul-t10 : tie.Need-mul-t10
+mul-t10 c = search needs
+
+element-set-from-next : tie.Need-element-set-from-next
+element-set-from-next c = search needs
+
+returns : tie.Need-returns
+unfolding balanced chargedAndCredited
+returns c =
+    let k = c .before .before .before .before .before .before in
+    simp (c .minus .ensures, plus-is (c .before .before .before), more-fits k, left-fits k, less-fits k)
+
+pub with-balances-spec : {M : Type 1} → statement M
+with-balances-spec =
+    tie.close
+    (tie.spec
+    mul-held
+    element-copy-out-held
+    plus-requires
+    mul-kept
+    element-set-from-kept
+    mul-kept-2
+    element-copy-out-kept
+    minus-requires
+    mul-t10
+    element-set-from-next
+    returns)

@@ -1,0 +1,4 @@
+-- What booking an entry does. Laws join it to document 01's equations; nothing here adds to their meaning.
+pub mod Ledger
+pub mod Raising
+pub mod Columns

@@ -1,0 +1,194 @@
+// The figures of a works while its lines are read: document 01, "Attribution". Each line is booked as one entry.
+ghost use mathlib.Core.Path.{_≡_};
+ghost use lib.IntN.{pos, natAbs, _+ℤ_, _-ℤ_};
+ghost use Prim.Native.Nat.{ℕ, _+_, _^_, _≤_, _<_};
+ghost use lib.ListN.{getD};
+ghost use Rattle.goods.specs.Sums.{sumTo};
+ghost use Rattle.ledger.specs.Ledger.{SIZE, STEP, Room, Small, balanced, booked, start};
+ghost use Rattle.ledger.specs.Raising.{gramsAdded, raisedToZero};
+ghost use Rattle.ledger.specs.Columns.{Column};
+use quantity::Grams;
+
+pub const SIZE: usize = 17;
+
+// What one line moves, in grams. Process 0 is outside the works.
+pub struct Entry {
+    // the process charged, and the process credited
+    pub charged: usize,
+    pub charge: Grams,
+    pub credited: usize,
+    pub credit: Grams,
+    // the process that uses power
+    pub user: usize,
+    pub power: Grams,
+    // the process that buys a precursor
+    pub buyer: usize,
+    pub direct: Grams,
+    pub indirect: Grams,
+    // what enters the works, leaves it, and stays uncredited
+    pub entering: Grams,
+    pub leaving: Grams,
+    pub lost: Grams,
+}
+
+// The grams of each process by its number, and those of the whole works.
+pub struct Ledger {
+    pub balances: [i64; SIZE],
+    pub indirect: [u64; SIZE],
+    pub bought_direct: [u64; SIZE],
+    pub bought_indirect: [u64; SIZE],
+    pub entered: i64,
+    pub uncredited: u64,
+}
+
+pub fn empty() -> Ledger
+    ensures { λ r. ⌜ r ≡ start ⌝ }
+{
+    Ledger {
+        balances: [0; SIZE],
+        indirect: [0; SIZE],
+        bought_direct: [0; SIZE],
+        bought_indirect: [0; SIZE],
+        entered: 0,
+        uncredited: 0,
+    }
+}
+
+// A signed figure with grams added.
+fn plus(held: i64, amount: Grams) -> i64
+    requires { ⌜ natAbs held ≤ 9210000000000000000 ⌝ }
+    requires { ⌜ amount .0 ≤ STEP ⌝ }
+    ensures { λ r. ⌜ r ≡ held +ℤ pos (amount .0) ⌝ }
+{
+    let grams = amount.0;
+    held + (grams as i64)
+}
+
+// A signed figure with grams taken off.
+fn minus(held: i64, amount: Grams) -> i64
+    requires { ⌜ natAbs held ≤ 9210000000000000000 ⌝ }
+    requires { ⌜ amount .0 ≤ STEP ⌝ }
+    ensures { λ r. ⌜ r ≡ held -ℤ pos (amount .0) ⌝ }
+{
+    let grams = amount.0;
+    held - (grams as i64)
+}
+
+// The balances with the charge added and the credit taken off.
+fn with_balances(l: Ledger, e: Entry) -> Ledger
+    requires { ⌜ Room l ⌝ }
+    requires { ⌜ Small e ⌝ }
+    ensures { λ r. ⌜ r ≡ balanced l e ⌝ }
+{
+    let mut next = l;
+    let to = e.charged;
+    let charge = e.charge;
+    let held = next.balances[to];
+    next.balances[to] = plus(held, charge);
+    let from = e.credited;
+    let credit = e.credit;
+    let kept = next.balances[from];
+    next.balances[from] = minus(kept, credit);
+    next
+}
+
+// The entry booked.
+pub fn book(l: Ledger, e: Entry) -> Ledger
+    requires { ⌜ Room l ⌝ }
+    requires { ⌜ Small e ⌝ }
+    ensures { λ r. ⌜ r ≡ booked l e ⌝ }
+{
+    let mut next = with_balances(l, e);
+    let user = e.user;
+    let buyer = e.buyer;
+    next.indirect[user] += e.power.0;
+    next.bought_direct[buyer] += e.direct.0;
+    next.bought_indirect[buyer] += e.indirect.0;
+    let entering = e.entering;
+    let leaving = e.leaving;
+    let entered = plus(next.entered, entering);
+    next.entered = minus(entered, leaving);
+    next.uncredited += e.lost.0;
+    next
+}
+
+// A balance raised to zero where it is below: the outcome, and the grams added.
+pub struct Raised {
+    pub direct: Grams,
+    pub raised: Grams,
+}
+
+// The same of each process by its number.
+pub struct RaisedAll {
+    pub direct: [u64; SIZE],
+    pub raised: [u64; SIZE],
+}
+
+pub fn raise(balance: i64) -> Raised
+    requires { ⌜ natAbs balance ≤ 9200000000000000000 ⌝ }
+    ensures { λ r. ⌜ (r .direct .0 ≡ raisedToZero balance) × (r .raised .0 ≡ gramsAdded balance) ⌝ }
+{
+    if balance < 0 {
+        return Raised {
+            direct: Grams(0),
+            raised: Grams((0 - balance) as u64),
+        };
+    }
+    Raised {
+        direct: Grams(balance as u64),
+        raised: Grams(0),
+    }
+}
+
+// Each balance raised to zero.
+pub fn raise_all(balances: [i64; SIZE], count: usize) -> RaisedAll
+    requires { ⌜ count < SIZE ⌝ }
+    requires { ⌜ ((k : ℕ) → natAbs (getD balances k (pos 0)) ≤ 9200000000000000000) ⌝ }
+    ensures direct { λ r. ⌜ Column count (λ k. raisedToZero (getD balances k (pos 0))) (r .direct) ⌝ }
+    ensures raised { λ r. ⌜ Column count (λ k. gramsAdded (getD balances k (pos 0))) (r .raised) ⌝ }
+{
+    let mut direct: [u64; SIZE] = [0; SIZE];
+    let mut raised: [u64; SIZE] = [0; SIZE];
+    let mut done: usize = 0;
+    while done < count {
+        let k = done + 1;
+        let balance = balances[k];
+        let r = raise(balance);
+        direct[k] = r.direct.0;
+        raised[k] = r.raised.0;
+        done = k;
+    }
+    RaisedAll { direct: direct, raised: raised }
+}
+
+// Two figures of each process together.
+pub fn add_all(a: [u64; SIZE], b: [u64; SIZE], count: usize) -> [u64; SIZE]
+    requires { ⌜ count < SIZE ⌝ }
+    requires { ⌜ ((k : ℕ) → 1 ≤ k → k ≤ count → getD a k 0 + getD b k 0 < 2 ^ 64) ⌝ }
+    ensures { λ r. ⌜ Column count (λ k. getD a k 0 + getD b k 0) r ⌝ }
+{
+    let mut both: [u64; SIZE] = [0; SIZE];
+    let mut done: usize = 0;
+    while done < count {
+        let k = done + 1;
+        both[k] = a[k] + b[k];
+        done = k;
+    }
+    both
+}
+
+// The figures of all processes together.
+pub fn total(a: [u64; SIZE], count: usize) -> Grams
+    requires { ⌜ count < SIZE ⌝ }
+    requires { ⌜ sumTo count (λ k. getD a k 0) < 2 ^ 63 ⌝ }
+    ensures { λ r. ⌜ r .0 ≡ sumTo count (λ k. getD a k 0) ⌝ }
+{
+    let mut sum: u64 = 0;
+    let mut done: usize = 0;
+    while done < count {
+        let k = done + 1;
+        sum += a[k];
+        done = k;
+    }
+    Grams(sum)
+}
