@@ -158,7 +158,10 @@ pub fn raise_all(balances: [i64; SIZE], count: usize) -> RaisedAll
         raised[k] = r.raised.0;
         done = k;
     }
-    RaisedAll { direct: direct, raised: raised }
+    RaisedAll {
+        direct: direct,
+        raised: raised,
+    }
 }
 
 // Two figures of each process together.

@@ -1,6 +1,5 @@
 -- THE BOUND: what goes into all pools is at most what the lines put into processes, and what is raised at most what they take from them.
 -- Stated over entries, for any kinds of lines. Assumes nothing.
-use mathlib.Core.Path.{_≡_, refl, sym, ap, _∙_}
 use mathlib.Core.List.{List, [], _∷_}
 use Prim.Native.Nat.{ℕ, _+_, _*_, _≤_}
 use native.Mathlib.Omega.{arith}
@@ -12,7 +11,7 @@ use Rattle.goods.specs.Sums.{sumTo, onlyAt}
 use Rattle.goods.proofs.Sums.{sum-add, sum-ext, sum-le, at-sum-le}
 use Rattle.reckoner.specs.Attribution.{direct, indirect, raised, boughtDirect, boughtIndirect}
 use Rattle.reckoner.specs.Reckoning.{processCount, totalRaised}
-use Rattle.reckoner.specs.Entries.{entry}
+use Rattle.entries.specs.Entries.{entry}
 use Rattle.reckoner.proofs.Sums.{of-add, of-le, sum-swap}
 use Rattle.reckoner.proofs.Entries.{plus, minus, figures}
 use Rattle.reckoner.proofs.Works.{direct-is, raised-is}

@@ -13,7 +13,8 @@ use Rattle.lines.specs.Lines.{linesOf, fieldsOf}
 use Rattle.sheet.specs.Refusals.{sumOf}
 use Rattle.goods.specs.Sums.{sumTo, onlyAt}
 use Rattle.reckoner.specs.Sums.{sumOfℤ}
-use Rattle.reckoner.specs.Attribution.{streamOf, heatOf, chargeOf, creditOf, powerOf, boughtDirectOf, boughtIndirectOf, streams, heatIn, heatOut, gasCharged, gasCredited, powerIn, powerOut, boughtDirect, boughtIndirect, balance, raised, direct, indirect}
+use Rattle.entries.specs.Weighed.{streamOf, heatOf, chargeOf, creditOf, powerOf, boughtDirectOf, boughtIndirectOf}
+use Rattle.reckoner.specs.Attribution.{streams, heatIn, heatOut, gasCharged, gasCredited, powerIn, powerOut, boughtDirect, boughtIndirect, balance, raised, direct, indirect}
 use Rattle.goods.specs.Goods.{takers, totalKilos, portion, left, portionOf, portionsTaken, poolsTo, poolOf, leftOf}
 use Rattle.reckoner.specs.Cases.{found, examples}
 

@@ -6,7 +6,7 @@ use native.Mathlib.Omega.{arith}
 use lib.Dec.{ltb}
 use lib.IntN.{ℤ, pos, negsuc, negℤ, subℕ, _+ℤ_, _-ℤ_, +ℤ-assoc, +ℤ-comm, negℤ-+ℤ, negℤ-negℤ}
 use borrow.Author.Tests.{ltb-true, ltb-false, lt-ltb, le-ltb}
-use Rattle.reckoner.specs.Attribution.{raisedToZero, gramsAdded}
+use Rattle.ledger.specs.Raising.{raisedToZero, gramsAdded}
 
 unfoldable pub diff : ℕ → ℕ → ℤ
 diff a b = subℕ a b

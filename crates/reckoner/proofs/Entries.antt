@@ -16,10 +16,12 @@ use Rattle.lines.specs.declared.Kind.{Kind}
 use Rattle.lines.specs.declared.Kind.the-variants.{Process, SourceStream, Heat, WasteGas, Power, BoughtPrecursor, OwnGood, Unknown}
 use Rattle.sheet.proofs.First.{All}
 use Rattle.goods.specs.Sums.{onlyAt}
-use Rattle.reckoner.specs.Attribution.{streamOf, heatOf, chargeOf, creditOf, powerOf, boughtDirectOf, boughtIndirectOf, streams, heatIn, heatOut, gasCharged, gasCredited, powerIn, powerOut, boughtDirect, boughtIndirect, raisedToZero, gramsAdded, balance, indirect}
+use Rattle.ledger.specs.Raising.{raisedToZero, gramsAdded}
+use Rattle.entries.specs.Weighed.{streamOf, heatOf, chargeOf, creditOf, powerOf, boughtDirectOf, boughtIndirectOf}
+use Rattle.reckoner.specs.Attribution.{streams, heatIn, heatOut, gasCharged, gasCredited, powerIn, powerOut, boughtDirect, boughtIndirect, balance, indirect}
 use Rattle.reckoner.specs.Reckoning.{kilosOf, kilosBetween, entered, uncredited}
-use Rattle.reckoner.specs.declared.Entry.{Entry}
-use Rattle.reckoner.specs.Entries.{betweenProcesses, entry}
+use Rattle.ledger.specs.declared.Entry.{Entry}
+use Rattle.entries.specs.Entries.{betweenProcesses, entry}
 use Rattle.reckoner.proofs.Differences.{diff, diff-plus, diff-minus}
 use Rattle.goods.proofs.Sums.{at-other, at-le, at-none, at-outside}
 use Rattle.reckoner.proofs.Sums.{ofℤ-diff}

@@ -17,11 +17,13 @@ use Rattle.sheet.specs.Refusals.{sumOf, from, to}
 use Rattle.lines.specs.declared.Kind.{Kind}
 use Rattle.lines.specs.declared.Kind.the-variants.{Process, SourceStream, Heat, WasteGas, Power, BoughtPrecursor, OwnGood, Unknown}
 use Rattle.sheet.proofs.First.{All}
-use Rattle.reckoner.specs.Attribution.{chargeOf, creditOf, gramsAdded, balance, raised}
+use Rattle.ledger.specs.Raising.{gramsAdded}
+use Rattle.entries.specs.Weighed.{chargeOf, creditOf}
+use Rattle.reckoner.specs.Attribution.{balance, raised}
 use Rattle.reckoner.specs.Reckoning.{processCount, totalLeft, entered, totalRaised, uncredited}
 use Rattle.reckoner.proofs.Differences.{diff, diff-pos, diff-eq, diff-inj, diff-ge, diff-lt}
 use Rattle.goods.proofs.Sums.{sum-zero-at, sum-zero-all}
-use Rattle.reckoner.specs.Entries.{entry}
+use Rattle.entries.specs.Entries.{entry}
 use Rattle.reckoner.proofs.Entries.{recordIs, Valid, figures, entered-is}
 use Rattle.reckoner.proofs.Valid.{Accepted}
 use Rattle.reckoner.proofs.Works.{conserved}

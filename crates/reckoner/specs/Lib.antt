@@ -3,5 +3,4 @@ pub mod Sums
 pub mod Attribution
 pub mod Reckoning
 pub mod Verdict
-pub mod Entries
 pub mod Cases

@@ -11,7 +11,7 @@ use Rattle.ledger.proofs.add_all.Reads as reads
 use Rattle.ledger.proofs.add_all.Lts as lts
 
 abbrev Inv-loop : tie.InvT-loop
-Inv-loop count a b both₀ done₀ both done = 
+Inv-loop count a b both₀ done₀ both done =
     (done ≤ count) × (Column done (λ k. getD a k 0 + getD b k 0) both)
 
 abbrev μ-loop : tie.MeasureT-loop

@@ -17,7 +17,7 @@ use Rattle.ledger.proofs.raise_all.Lts as lts
 use Rattle.ledger.proofs.raise.Reads as raise-reads
 
 abbrev Inv-loop : tie.InvT-loop
-Inv-loop count balances direct₀ raised₀ done₀ direct raised done = 
+Inv-loop count balances direct₀ raised₀ done₀ direct raised done =
     (done ≤ count)
     × (Column done (λ k. raisedToZero (getD balances k (pos 0))) direct)
     × (Column done (λ k. gramsAdded (getD balances k (pos 0))) raised)

@@ -16,7 +16,7 @@ next : (n : ℕ) (f : ℕ → ℕ) → sumTo (n + 1) f ≡ sumTo n f + f (n + 1)
 next n f = rw add-one (sum-suc n f)
 
 abbrev Inv-loop : tie.InvT-loop
-Inv-loop count a sum₀ done₀ sum done = 
+Inv-loop count a sum₀ done₀ sum done =
     (done ≤ count) × (sum ≡ sumTo done (λ k. getD a k 0))
 
 abbrev μ-loop : tie.MeasureT-loop

@@ -9,8 +9,9 @@ use Rattle.lines.specs.declared.Kind.{Kind}
 use Rattle.lines.specs.declared.Kind.the-variants.{Process, SourceStream, Heat, WasteGas, Power, BoughtPrecursor, OwnGood, Unknown}
 use Rattle.sheet.specs.Refusals.{process, from, to}
 use Rattle.goods.specs.Sums.{onlyAt}
-use Rattle.reckoner.specs.Attribution.{streamOf, heatOf, chargeOf, creditOf, powerOf, boughtDirectOf, boughtIndirectOf, raisedToZero, gramsAdded}
-use Rattle.reckoner.specs.declared.Entry.{Entry}
+use Rattle.ledger.specs.Raising.{raisedToZero, gramsAdded}
+use Rattle.entries.specs.Weighed.{streamOf, heatOf, chargeOf, creditOf, powerOf, boughtDirectOf, boughtIndirectOf}
+use Rattle.ledger.specs.declared.Entry.{Entry}
 
 abbrev pub grams : ℕ → Grams
 grams n = record { 0 = n }
