@@ -13,7 +13,7 @@ use Rattle.ledger.specs.declared.Entry.{Entry}
 use Rattle.ledger.specs.declared.Ledger.{Ledger}
 use Rattle.ledger.specs.Ledger.{added, chargedAndCredited, booked, Small, Sized}
 
-place-added : (l : List ℕ) (p amount i : ℕ) → p < length l → getD (added l p amount) i 0 ≡ getD l i 0 + onlyAt i p amount
+pub place-added : (l : List ℕ) (p amount i : ℕ) → p < length l → getD (added l p amount) i 0 ≡ getD l i 0 + onlyAt i p amount
 place-added l p amount i h =
     elim (ℕ-discrete i p) [
       | yes e ↦ rw (e, getD-set-same l p (getD l p 0 + amount) 0 h, at-same)

@@ -8,3 +8,5 @@ pub mod Works
 pub mod Exact
 pub mod Sheet
 pub mod Bounds
+pub mod HeldLedger
+pub mod HeldGoods
