@@ -1,5 +1,5 @@
 -- A source stream by its method, and numbers with a sign. Assumes nothing.
-use mathlib.Core.Path.{_≡_, refl, ap, _∙_}
+use mathlib.Core.Path.{_≡_, refl, sym, ap, _∙_}
 use Prim.Native.Nat.{ℕ, zero, suc, _^_, _≤_, _<_}
 use native.Mathlib.Nat.{le-refl}
 use native.Mathlib.Omega.{arith}
@@ -8,25 +8,22 @@ use lib.IntN.{ℤ, pos, negsuc, negℤ, natAbs, _-ℤ_, +ℤ-idl}
 use mir.Syntax.{w64}
 use mir.Val.{SFits, toZ, ofZ}
 use mir.Facts.{toZ-pos, toZ-ofZ}
-use Rattle.quantity.specs.Streams.{combustionGrams, processGrams, carbonGrams, streamGrams}
+use Rattle.quantity.specs.Streams.{carbonGrams, streamGrams}
 
 -- ---- by method
-module _ {method : ℕ} (kilos a b c d : ℕ) where
-  pub burning : method ≡ 1 → streamGrams method kilos a b c d ≡ pos (combustionGrams kilos a b c d)
-  unfolding streamGrams
-  burning e = ap (λ (m : ℕ). streamGrams m kilos a b c d) e
+pub at-method : {m n : ℕ} (kilos a b c d : ℕ) → m ≡ n → streamGrams n kilos a b c d ≡ streamGrams m kilos a b c d
+at-method kilos a b c d e = ap (λ (k : ℕ). streamGrams k kilos a b c d) (sym e)
 
-  pub processing : method ≡ 2 → streamGrams method kilos a b c d ≡ pos (processGrams kilos a c d)
-  unfolding streamGrams
-  processing e = ap (λ (m : ℕ). streamGrams m kilos a b c d) e
+pub carbon-out : {m : ℕ} (kilos a b c d : ℕ) → (m ≡ 1 → ⊥) → (m ≡ 2 → ⊥) → (m ≡ 3 → ⊥) → negℤ (pos (carbonGrams kilos a)) ≡ streamGrams m kilos a b c d
+unfolding streamGrams
+carbon-out {m} kilos a b c d n₁ n₂ n₃ = simp (ne-eqb m 1 n₁, ne-eqb m 2 n₂, ne-eqb m 3 n₃)
 
-  pub carbon-in : method ≡ 3 → streamGrams method kilos a b c d ≡ pos (carbonGrams kilos a)
-  unfolding streamGrams
-  carbon-in e = ap (λ (m : ℕ). streamGrams m kilos a b c d) e
+-- ---- what is counted plus or minus, from the call that counts and the call that weighs
+pub plus-of : {z : ℤ} {g h : ℕ} → z ≡ pos g → g ≡ h → z ≡ pos h
+plus-of e f = e ∙ ap pos f
 
-  pub carbon-out : (method ≡ 1 → ⊥) → (method ≡ 2 → ⊥) → (method ≡ 3 → ⊥) → streamGrams method kilos a b c d ≡ negℤ (pos (carbonGrams kilos a))
-  unfolding streamGrams
-  carbon-out n₁ n₂ n₃ = simp (ne-eqb method 1 n₁, ne-eqb method 2 n₂, ne-eqb method 3 n₃)
+pub minus-of : {z : ℤ} {g h : ℕ} → z ≡ negℤ (pos g) → g ≡ h → z ≡ negℤ (pos h)
+minus-of e f = e ∙ ap (λ (n : ℕ). negℤ (pos n)) f
 
 -- ---- counted plus and counted minus
 pub plus-bits : {n : ℕ} → n ≤ 1000000000000000 → toZ w64 n ≡ pos n

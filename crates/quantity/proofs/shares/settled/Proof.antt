@@ -1,10 +1,8 @@
+-- `settled` meets its contract, by the laws of long division. Assumes nothing.
 use borrow.Author.Needs.{needs}
-use native.Mathlib.Omega.{arith}
 use Rattle.quantity.proofs.Division.{one-more, taken-off, left-below}
 use Rattle.quantity.proofs.shares.settled.Statement.{statement}
 use Rattle.quantity.proofs.shares.settled.Tie as tie
-use Rattle.quantity.proofs.shares.settled.Reads as reads
-use Rattle.quantity.proofs.shares.settled.Lts as lts
 
 returns : tie.Need-returns
 returns c = search needs

@@ -1,3 +1,5 @@
+-- `share` meets its contract. The invariant: quotient and remainder make up the part times the bits of the pool from i up.
+-- The measure is i. Assumes nothing.
 use mathlib.Core.Path.{_≡_, ap, _∙_}
 use Prim.Native.Nat.{ℕ, _+_, _-_, _*_, _/_, _^_, _≤_, _<_}
 use native.Mathlib.Omega.{arith}
@@ -7,9 +9,6 @@ use lib.Count.{leading-le}
 use Rattle.quantity.proofs.Division.{bit-small, first, next, room, done, share-small}
 use Rattle.quantity.proofs.shares.share.Statement.{statement}
 use Rattle.quantity.proofs.shares.share.Tie as tie
-use Rattle.quantity.proofs.shares.share.Reads as reads
-use Rattle.quantity.proofs.shares.share.Lts as lts
-use Rattle.quantity.proofs.shares.with_bit.Reads as with-bit-reads
 
 abbrev Inv-loop : tie.InvT-loop
 Inv-loop pool part whole d₀ i₀ d i =

@@ -1,11 +1,10 @@
+-- `standard_carbonate` meets its contract: the constant array is `carbonates`. Assumes nothing.
 use borrow.Author.Needs.{needs}
 use native.Mathlib.Omega.{arith}
 use Rattle.quantity.specs.Standard.{carbonates}
 use Rattle.quantity.proofs.Tables.{carbonate-factors, at-none, at-found, at-past}
 use Rattle.quantity.proofs.standard.standard_carbonate.Statement.{statement}
 use Rattle.quantity.proofs.standard.standard_carbonate.Tie as tie
-use Rattle.quantity.proofs.standard.standard_carbonate.Reads as reads
-use Rattle.quantity.proofs.standard.standard_carbonate.Lts as lts
 
 returns : tie.Need-returns
 returns c = (at-none carbonate-factors (c .before .args .code) (c .if1 .taken), omega arith)

@@ -1,11 +1,10 @@
+-- `standard_emission_factor` meets its contract: the constant array is the second column of `fuels`. Assumes nothing.
 use borrow.Author.Needs.{needs}
 use native.Mathlib.Omega.{arith}
 use Rattle.quantity.specs.Standard.{fuels}
 use Rattle.quantity.proofs.Tables.{emission-factors, at-none, at-found, at-past}
 use Rattle.quantity.proofs.standard.standard_emission_factor.Statement.{statement}
 use Rattle.quantity.proofs.standard.standard_emission_factor.Tie as tie
-use Rattle.quantity.proofs.standard.standard_emission_factor.Reads as reads
-use Rattle.quantity.proofs.standard.standard_emission_factor.Lts as lts
 
 returns : tie.Need-returns
 returns c = (at-none emission-factors (c .before .args .code) (c .if1 .taken), omega arith)

@@ -1,11 +1,10 @@
+-- `standard_net_calorific_value` meets its contract: the constant array is the first column of `fuels`. Assumes nothing.
 use borrow.Author.Needs.{needs}
 use native.Mathlib.Omega.{arith}
 use Rattle.quantity.specs.Standard.{fuels}
 use Rattle.quantity.proofs.Tables.{net-calorific-values, at-none, at-found, at-past}
 use Rattle.quantity.proofs.standard.standard_net_calorific_value.Statement.{statement}
 use Rattle.quantity.proofs.standard.standard_net_calorific_value.Tie as tie
-use Rattle.quantity.proofs.standard.standard_net_calorific_value.Reads as reads
-use Rattle.quantity.proofs.standard.standard_net_calorific_value.Lts as lts
 
 returns : tie.Need-returns
 returns c = (at-none net-calorific-values (c .before .args .code) (c .if1 .taken), omega arith)

@@ -1,11 +1,9 @@
+-- `carbon` meets its contract: T1 stays within 10^13. Assumes nothing.
 use native.Mathlib.Nat.{mul-le-mul}
 use native.Mathlib.Omega.{arith}
 use Rattle.quantity.specs.Streams.{carbonGrams}
 use Rattle.quantity.proofs.streams.carbon.Statement.{statement}
 use Rattle.quantity.proofs.streams.carbon.Tie as tie
-use Rattle.quantity.proofs.streams.carbon.Reads as reads
-use Rattle.quantity.proofs.streams.carbon.Lts as lts
-use Rattle.quantity.proofs.round_thousandths.Reads as round-thousandths-reads
 
 round-thousandths-requires : tie.Need-round-thousandths-requires
 round-thousandths-requires c κs = omega (arith, mul-le-mul (c .pre .mass) (c .pre .content))

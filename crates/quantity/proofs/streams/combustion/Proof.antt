@@ -1,13 +1,10 @@
+-- `combustion` meets its contract: T1 stays within 2 × 10^12 and T2 within 10^15. Assumes nothing.
 use Prim.Native.Nat.{_≤_}
 use native.Mathlib.Nat.{mul-le-mul}
 use native.Mathlib.Omega.{arith}
 use Rattle.quantity.specs.Streams.{combustionGrams}
 use Rattle.quantity.proofs.streams.combustion.Statement.{statement}
 use Rattle.quantity.proofs.streams.combustion.Tie as tie
-use Rattle.quantity.proofs.streams.combustion.Reads as reads
-use Rattle.quantity.proofs.streams.combustion.Lts as lts
-use Rattle.quantity.proofs.round_thousandths.Reads as round-thousandths-reads
-use Rattle.quantity.proofs.streams.fossil.Reads as fossil-reads
 
 round-thousandths-requires : tie.Need-round-thousandths-requires
 round-thousandths-requires c κs = omega (arith, mul-le-mul (c .pre .mass) (c .pre .calorific))

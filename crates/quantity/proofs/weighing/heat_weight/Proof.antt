@@ -1,11 +1,9 @@
+-- `heat_weight` meets its contract: MJ × factor stays within 10^18. Assumes nothing.
 use borrow.Author.Needs.{needs}
 use native.Mathlib.Nat.{mul-le-mul}
 use native.Mathlib.Omega.{arith}
 use Rattle.quantity.proofs.weighing.heat_weight.Statement.{statement}
 use Rattle.quantity.proofs.weighing.heat_weight.Tie as tie
-use Rattle.quantity.proofs.weighing.heat_weight.Reads as reads
-use Rattle.quantity.proofs.weighing.heat_weight.Lts as lts
-use Rattle.quantity.proofs.weighing.weighed.Reads as weighed-reads
 
 weighed-requires : tie.Need-weighed-requires
 weighed-requires c κs = omega (arith, mul-le-mul (c .pre .0) (c .pre .1))

@@ -1,10 +1,8 @@
+-- `weighed` meets its contract. Assumes nothing.
 use borrow.Author.Needs.{needs}
 use Rattle.quantity.specs.Weights.{weight}
 use Rattle.quantity.proofs.weighing.weighed.Statement.{statement}
 use Rattle.quantity.proofs.weighing.weighed.Tie as tie
-use Rattle.quantity.proofs.weighing.weighed.Reads as reads
-use Rattle.quantity.proofs.weighing.weighed.Lts as lts
-use Rattle.quantity.proofs.round_thousandths.Reads as round-thousandths-reads
 
 round-thousandths-requires : tie.Need-round-thousandths-requires
 round-thousandths-requires c κs = search needs
