@@ -3,3 +3,4 @@ pub mod Cases
 pub mod Sums
 pub mod Portions
 pub mod Pools
+pub mod Division
