@@ -4,3 +4,4 @@ pub mod Sums
 pub mod Portions
 pub mod Pools
 pub mod Division
+pub mod Passing

@@ -17,7 +17,7 @@ module _ (pool output : ℕ) (m : ℕ → ℕ) where
   unfolding givenTo sumTo
   given-mono j = div-mono _ _ output (mul-le-mul-left pool (omega arith))
 
-  given-suc : (j : ℕ) → givenTo pool output m (suc j) ≡ givenTo pool output m j + portionTo pool output m (suc j)
+  pub given-suc : (j : ℕ) → givenTo pool output m (suc j) ≡ givenTo pool output m j + portionTo pool output m (suc j)
   unfolding portionTo
   given-suc j = let h = given-mono j in omega arith
 
@@ -25,7 +25,7 @@ module _ (pool output : ℕ) (m : ℕ → ℕ) where
   unfolding givenTo
   given-within n h = given-le pool (sumTo n m) output h
 
-  given-none : (j : ℕ) → sumTo j m ≡ 0 → givenTo pool output m j ≡ 0
+  pub given-none : (j : ℕ) → sumTo j m ≡ 0 → givenTo pool output m j ≡ 0
   unfolding givenTo
   given-none j e = rw (e, mul-zero pool) (zero-div output)
 
