@@ -5,3 +5,5 @@ pub mod Portions
 pub mod Pools
 pub mod Division
 pub mod Passing
+pub mod Same
+pub mod Settling

@@ -120,9 +120,9 @@ module _ {pool output : ℕ} {m : ℕ → ℕ} {before : List ℕ} {to taken giv
   given-fits n within h = rw (p .given-is) (given-le pool taken output (omega (arith, p .taken-is, sum-mono to n m h)))
 
   -- all processes have had their portions
-  pub passed-on : (n : ℕ) → n ≡ to → PassedOn n pool output m before pools (pool - given)
+  pub passing-all : (n : ℕ) → n ≡ to → PassedOn n pool output m before pools (pool - given)
   unfolding left
-  passed-on n e =
+  passing-all n e =
       rw e (record {
         size = p .size;
         taken = λ k l h. rw (portion-is pool output m to k l h) (p .done k l h);

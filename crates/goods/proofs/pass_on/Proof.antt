@@ -4,7 +4,7 @@ use borrow.Author.Needs.{needs}
 use native.Mathlib.Omega.{arith}
 use lib.ListN.{length, getD}
 use Rattle.goods.specs.Settling.{pairs}
-use Rattle.goods.proofs.Passing.{Passing, passing-none, passing-skip, passing-next, next-rises, pool-fits, taken-fits, given-fits, passed-on}
+use Rattle.goods.proofs.Passing.{Passing, passing-none, passing-skip, passing-next, next-rises, pool-fits, taken-fits, given-fits, passing-all}
 use Rattle.goods.proofs.pass_on.Statement.{statement}
 use Rattle.goods.proofs.pass_on.Tie as tie
 use Rattle.goods.proofs.pass_on.Reads as reads
@@ -99,7 +99,7 @@ sub-result : tie.Need-sub-result Inv-loop μ-loop
 sub-result c = let h = c .before in given-fits (h .loop .inv .2) (h .before .before .args .count) (h .before .before .pre .1 .1 .within) (omega arith)
 
 returns : tie.Need-returns Inv-loop μ-loop
-returns c = let h = c .before in passed-on (h .loop .inv .2) (h .before .before .args .count) (omega arith)
+returns c = let h = c .before in passing-all (h .loop .inv .2) (h .before .before .args .count) (omega arith)
 
 pub pass-on-spec : {M : Type 1} → statement M
 pass-on-spec =
