@@ -30,8 +30,11 @@ module _ (n : ℕ) (output output′ : ℕ → ℕ) (kilos kilos′ : ℕ → �
   unfolding poolsTo
   pools-cong zero h = refl
   pools-cong (suc k) h =
-      rw (pools-cong k (omega arith), same-own (suc k) (omega arith) h,
-      taken-cong (poolsTo n output′ kilos′ own′ k) (suc k) (omega (arith, length-pools n output′ kilos′ own′ k)))
+      rw (
+        pools-cong k (omega arith),
+        same-own (suc k) (omega arith) h,
+        taken-cong (poolsTo n output′ kilos′ own′ k) (suc k) (omega (arith, length-pools n output′ kilos′ own′ k)),
+      )
 
   pub pool-cong : (k : ℕ) → k ≤ n → poolOf n output kilos own k ≡ poolOf n output′ kilos′ own′ k
   unfolding poolOf

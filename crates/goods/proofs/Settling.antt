@@ -137,9 +137,11 @@ module _ {n : ℕ} {output : ℕ → ℕ} {kilos : ℕ → ℕ → ℕ} {own : �
   settling-next h u p = rw (add-one i) (passed h (omega arith) (rw (add-one i) at p))
 
   -- all processes have had their turn
-  pub settling-all : n ≡ i → PoolsSettled n output kilos own pools lefts
+  pub settling-all : n ≡ i → PoolsSettled size n output kilos own pools lefts
   settling-all e =
       record {
+        pools-size = t .pools-size;
+        lefts-size = t .lefts-size;
         pool-is = at-pool;
         left-is = λ k a b. t .lefts-done k a (omega arith);
         pool-outside = t .own-outside;

@@ -51,8 +51,10 @@ pub record Settleable (n : ℕ) (output : ℕ → ℕ) (kilos : ℕ → ℕ → 
   pub within : (i : ℕ) → 1 ≤ i → i ≤ n → sumTo n (kilos i) ≤ output i
   pub total : sumTo n own < 2 ^ 63
 
--- the pools and what is left of each; outside 1 .. n pools are the own grams, and nothing is left
-pub record PoolsSettled (n : ℕ) (output : ℕ → ℕ) (kilos : ℕ → ℕ → ℕ) (own : ℕ → ℕ) (pools lefts : List ℕ) : Type 0 where
+-- the pools and what is left of each, in arrays of `size` places; outside 1 .. n pools are the own grams, and nothing is left
+pub record PoolsSettled (size n : ℕ) (output : ℕ → ℕ) (kilos : ℕ → ℕ → ℕ) (own : ℕ → ℕ) (pools lefts : List ℕ) : Type 0 where
+  pub pools-size : length pools ≡ size
+  pub lefts-size : length lefts ≡ size
   pub pool-is : (k : ℕ) → 1 ≤ k → k ≤ n → getD pools k 0 ≡ poolOf n output kilos own k
   pub left-is : (k : ℕ) → 1 ≤ k → k ≤ n → getD lefts k 0 ≡ leftOf n output kilos own k
   pub pool-outside : (k : ℕ) → (1 ≤ k → k ≤ n → ⊥) → getD pools k 0 ≡ own k

@@ -6,6 +6,7 @@ ghost use Rattle.goods.specs.Settling.{PROCESSES, SIZE, figures, pairs, 
 use quantity::Grams;
 use quantity::Kilos;
 use share::share;
+
 mod share;
 
 // A works has at most this many processes, numbered from 1.
@@ -24,7 +25,13 @@ pub struct Settled {
 }
 
 // Process `from` passes portions of its pool on to its takers by rising number. The result is what is left of the pool.
-fn pass_on(pools: &mut [u64; SIZE], output: u64, kilos: &[u64; PAIRS], from: usize, count: usize) -> u64
+fn pass_on(
+    pools: &mut [u64; SIZE],
+    output: u64,
+    kilos: &[u64; PAIRS],
+    from: usize,
+    count: usize,
+) -> u64
     requires { ⌜ (1 ≤ from) × (from ≤ count) × (count ≤ PROCESSES) ⌝ }
     requires { ⌜ length (now pools) ≡ SIZE ⌝ }
     requires { ⌜ CanPassOn count from output (pairs (now kilos) from) (now pools) ⌝ }
@@ -52,8 +59,7 @@ fn pass_on(pools: &mut [u64; SIZE], output: u64, kilos: &[u64; PAIRS], from: usi
 pub fn settle(own: [u64; SIZE], outputs: [u64; SIZE], kilos: &[u64; PAIRS], count: usize) -> Settled
     requires { ⌜ count ≤ PROCESSES ⌝ }
     requires { ⌜ Settleable count (figures outputs) (pairs (now kilos)) (figures own) ⌝ }
-    ensures { λ r. ⌜ PoolsSettled count (figures outputs) (pairs (now (kilos .entry))) (figures own) (r .pools) (r .lefts) ⌝ }
-    ensures sizes { λ r. ⌜ (length (r .pools) ≡ SIZE) × (length (r .lefts) ≡ SIZE) ⌝ }
+    ensures { λ r. ⌜ PoolsSettled SIZE count (figures outputs) (pairs (now (kilos .entry))) (figures own) (r .pools) (r .lefts) ⌝ }
 {
     let mut pools = own;
     let mut lefts = [0; SIZE];

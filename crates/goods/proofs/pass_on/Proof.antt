@@ -1,15 +1,12 @@
+-- `goods::pass_on` meets its contract. The loop's invariant: processes up to `to` have had their portions (`Passing`). The measure is how many
+-- processes are left. Assumes nothing.
 use Prim.Native.Nat.{_+_, _-_, _≤_, _<_}
-use mathlib.Core.Path.{_≡_, refl}
-use borrow.Author.Needs.{needs}
+use mathlib.Core.Path.{refl}
 use native.Mathlib.Omega.{arith}
-use lib.ListN.{length, getD}
 use Rattle.goods.specs.Settling.{pairs}
 use Rattle.goods.proofs.Passing.{Passing, passing-none, passing-skip, passing-next, next-rises, pool-fits, taken-fits, given-fits, passing-all}
 use Rattle.goods.proofs.pass_on.Statement.{statement}
 use Rattle.goods.proofs.pass_on.Tie as tie
-use Rattle.goods.proofs.pass_on.Reads as reads
-use Rattle.goods.proofs.pass_on.Lts as lts
-use Rattle.goods.proofs.share.share.Reads as share-reads
 
 abbrev Inv-loop : tie.InvT-loop
 Inv-loop pools₀ output kilos from count pool taken₀ given₀ to₀ pools taken given to =

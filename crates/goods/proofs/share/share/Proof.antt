@@ -1,8 +1,7 @@
 -- `goods::share::share` meets its contract. The loop's invariant: quotient and remainder make up c times the bits of p from i up. The measure is i.
 -- Assumes nothing.
-use mathlib.Core.Path.{_≡_, sym, ap, _∙_}
+use mathlib.Core.Path.{_≡_, ap, _∙_}
 use Prim.Native.Nat.{ℕ, _+_, _-_, _*_, _/_, _^_, _≤_, _<_}
-use borrow.Author.Needs.{needs}
 use native.Mathlib.Omega.{arith}
 use lib.Bits.{bitAnd}
 use lib.Count.{leading-le}
@@ -10,9 +9,6 @@ use Rattle.goods.proofs.Division.{bit-small, first, next, room, whole, 
 use Rattle.goods.proofs.Portions.{given-le}
 use Rattle.goods.proofs.share.share.Statement.{statement}
 use Rattle.goods.proofs.share.share.Tie as tie
-use Rattle.goods.proofs.share.share.Reads as reads
-use Rattle.goods.proofs.share.share.Lts as lts
-use Rattle.goods.proofs.share.with_bit.Reads as with-bit-reads
 
 abbrev Inv-loop : tie.InvT-loop
 Inv-loop part whole p d₀ i₀ d i =
