@@ -5,7 +5,6 @@ use mathlib.Core.List.{List, [], _∷_}
 use Prim.Native.Nat.{ℕ, zero, suc, _+_, _^_, _≤_, _<_}
 use native.Mathlib.Decide.{le-ind, decLe}
 use native.Mathlib.Nat.{le-refl, le-trans, lt-of-not-le}
-use native.Mathlib.Numerals.{add-one}
 use native.Mathlib.Omega.{arith}
 use lib.Dec.{eqb}
 use lib.ListN.{length, getD, set, replicate, length-set, length-replicate}
@@ -111,8 +110,8 @@ module _ {n : ℕ} {output : ℕ → ℕ} {kilos : ℕ → ℕ → ℕ} {own : �
           rw (pool-next h)
           (omega (arith, t .held-is (suc k) l u, held-next n output kilos own i (suc k), held-le n output kilos own s k (suc i) h, pool-small n output kilos own s k u))
 
-  pub settling-can : i < n → CanPassOn n (i + 1) (output (i + 1)) (kilos (i + 1)) pools
-  settling-can h = rw (add-one i) (can-pass-on h)
+  pub settling-can : {j : ℕ} → j ≡ suc i → i < n → CanPassOn n j (output j) (kilos j) pools
+  settling-can e h = rw e (can-pass-on h)
 
   passed : {after : List ℕ} {rest : ℕ} → i < n → suc i < size
       → PassedOn n (getD pools (suc i) 0) (output (suc i)) (kilos (suc i)) pools after rest → Settling n output kilos own size (suc i) after (set lefts (suc i) rest)
@@ -132,9 +131,9 @@ module _ {n : ℕ} {output : ℕ → ℕ} {kilos : ℕ → ℕ → ℕ} {own : �
           rw (eqb-true k (suc i) e) (getD-set-same lefts (suc i) rest 0 (omega (arith, t .lefts-size)) ∙ p .left-is ∙ rw (pool-next h))
       go k a b false e = let ne = eqb-false k (suc i) e in getD-set-other lefts (suc i) k rest 0 ne ∙ t .lefts-done k a (omega arith)
 
-  pub settling-next : {after : List ℕ} {rest : ℕ} → i < n → i + 1 < size
-      → PassedOn n (getD pools (i + 1) 0) (output (i + 1)) (kilos (i + 1)) pools after rest → Settling n output kilos own size (i + 1) after (set lefts (i + 1) rest)
-  settling-next h u p = rw (add-one i) (passed h (omega arith) (rw (add-one i) at p))
+  pub settling-next : {j : ℕ} {after : List ℕ} {rest : ℕ} → j ≡ suc i → i < n → j < size
+      → PassedOn n (getD pools j 0) (output j) (kilos j) pools after rest → Settling n output kilos own size j after (set lefts j rest)
+  settling-next e h u p = rw e (passed h (rw e at u) (rw e at p))
 
   -- all processes have had their turn
   pub settling-all : n ≡ i → PoolsSettled size n output kilos own pools lefts

@@ -24,7 +24,8 @@ pub struct Settled {
     pub lefts: [u64; SIZE],
 }
 
-// Process `from` passes portions of its pool on to its takers by rising number. The result is what is left of the pool.
+// Process `from` passes portions of its pool on to its takers, by rising number; the result is what is left. In document 01's terms `taken` is
+// C(k−1) and `through` C(k), `given` is ⌊P × C(k−1)/A⌋ and `next` ⌊P × C(k)/A⌋.
 fn pass_on(
     pools: &mut [u64; SIZE],
     output: u64,
@@ -32,7 +33,7 @@ fn pass_on(
     from: usize,
     count: usize,
 ) -> u64
-    requires { ⌜ (1 ≤ from) × (from ≤ count) × (count ≤ PROCESSES) ⌝ }
+    requires { ⌜ (from ≤ count) × (count ≤ PROCESSES) ⌝ }
     requires { ⌜ length (now pools) ≡ SIZE ⌝ }
     requires { ⌜ CanPassOn count from output (pairs (now kilos) from) (now pools) ⌝ }
     ensures { λ r. ⌜ PassedOn count (getD (now (pools .entry)) from 0) output (pairs (now (kilos .entry)) from) (now (pools .entry)) (now (pools .exit)) r ⌝ }
@@ -46,16 +47,17 @@ fn pass_on(
         let at = from * SIZE + to;
         let kg = kilos[at];
         if kg > 0 {
-            taken += kg;
-            let next = share(Grams(pool), Kilos(taken), Kilos(output));
+            let through = taken + kg;
+            let next = share(Grams(pool), Kilos(through), Kilos(output));
             pools[to] = pools[to] + (next.0 - given);
+            taken = through;
             given = next.0;
         }
     }
     pool - given
 }
 
-// The pools of processes 1 .. count, from the own grams of each (its attribution and its bought grams), the outputs, and the kilograms of own goods.
+// The pools of processes 1 .. count, settled one after the other, and what is left of each. `own` is the attribution of a process and its bought grams.
 pub fn settle(own: [u64; SIZE], outputs: [u64; SIZE], kilos: &[u64; PAIRS], count: usize) -> Settled
     requires { ⌜ count ≤ PROCESSES ⌝ }
     requires { ⌜ Settleable count (figures outputs) (pairs (now kilos)) (figures own) ⌝ }
@@ -63,12 +65,12 @@ pub fn settle(own: [u64; SIZE], outputs: [u64; SIZE], kilos: &[u64; PAIRS], coun
 {
     let mut pools = own;
     let mut lefts = [0; SIZE];
-    let mut done = 0;
-    while done < count {
-        done += 1;
-        let output = outputs[done];
-        let left = pass_on(&mut pools, output, kilos, done, count);
-        lefts[done] = left;
+    let mut i = 1;
+    while i <= count {
+        let output = outputs[i];
+        let left = pass_on(&mut pools, output, kilos, i, count);
+        lefts[i] = left;
+        i += 1;
     }
     Settled {
         pools: pools,

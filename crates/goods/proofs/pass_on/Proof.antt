@@ -24,7 +24,7 @@ element-copy-out-pool c = omega arith
 loop-holds : tie.Need-loop-holds Inv-loop μ-loop
 loop-holds c =
     let s = c .before in
-    (omega arith, s .pre .0 .1, passing-none _ _ _ _ (s .args .from) (s .pre .1 .1 .ahead))
+    (omega arith, s .pre .0 .0, passing-none _ _ _ _ (s .args .from) (s .pre .1 .1 .ahead))
 
 -- in a turn: the kilograms taken so far are within the output
 taken-within : (h : tie.At-loop Inv-loop μ-loop) → h .loop .to < h .before .before .args .count
@@ -46,14 +46,14 @@ mul-kg c = omega arith
 element-copy-out-kg : tie.Need-element-copy-out-kg Inv-loop μ-loop
 element-copy-out-kg c = omega arith
 
-add-taken : tie.Need-add-taken Inv-loop μ-loop
-add-taken c = omega (arith, taken-within (c .before .before .before) (c .before .before .loop-test .taken))
+add-through : tie.Need-add-through Inv-loop μ-loop
+add-through c = omega (arith, taken-within (c .before .before .before) (c .before .before .loop-test .taken))
 
 share-requires : tie.Need-share-requires Inv-loop μ-loop
 share-requires c κs =
     let h = c .before .before .before in
     let p = h .before .before .pre .1 .1 in
-    (taken-within h (c .before .before .loop-test .taken), (p .some, p .small))
+    omega (arith, taken-within h (c .before .before .loop-test .taken))
 
 mul-pools : tie.Need-mul-pools Inv-loop μ-loop
 mul-pools c = omega arith
@@ -93,7 +93,9 @@ loop-again-2 c =
     (omega arith, omega arith, passing-skip (h .loop .inv .2) (omega arith))
 
 sub-result : tie.Need-sub-result Inv-loop μ-loop
-sub-result c = let h = c .before in given-fits (h .loop .inv .2) (h .before .before .args .count) (h .before .before .pre .1 .1 .within) (omega arith)
+sub-result c =
+    let h = c .before in
+    omega (arith, given-fits (h .loop .inv .2) (h .before .before .args .count) (h .before .before .pre .1 .1 .within) (omega arith))
 
 returns : tie.Need-returns Inv-loop μ-loop
 returns c = let h = c .before in passing-all (h .loop .inv .2) (h .before .before .args .count) (omega arith)
@@ -112,7 +114,7 @@ pass-on-spec =
     add-at
     mul-kg
     element-copy-out-kg
-    add-taken
+    add-through
     share-requires
     mul-pools
     element-copy-out-pools
