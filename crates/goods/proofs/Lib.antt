@@ -3,7 +3,7 @@ pub mod Cases
 pub mod Sums
 pub mod Portions
 pub mod Pools
-pub mod Division
-pub mod Passing
 pub mod Same
-pub mod Settling
+mod Passing
+mod Settling
+mod Division

@@ -3,7 +3,7 @@ use mathlib.Core.Path.{_≡_, refl, sym, ap, _∙_}
 use mathlib.Core.Bool.{Bool, true, false}
 use mathlib.Core.List.{List}
 use Prim.Native.Nat.{ℕ, zero, suc, _+_, _*_, _-_, _/_, _^_, _≤_, _<_}
-use native.Mathlib.Nat.{le-refl, le-trans}
+use native.Mathlib.Nat.{le-trans}
 use native.Mathlib.Numerals.{add-one}
 use native.Mathlib.Omega.{arith}
 use lib.Dec.{eqb}
@@ -11,7 +11,7 @@ use lib.ListN.{length, getD, set, length-set}
 use lib.Seq.{getD-set-same, getD-set-other}
 use borrow.Author.Tests.{eqb-true, eqb-false}
 use Rattle.goods.specs.Sums.{sumTo}
-use Rattle.goods.specs.Goods.{takers, portionOf, left}
+use Rattle.goods.specs.Goods.{left}
 use Rattle.goods.specs.Settling.{CanPassOn, PassedOn}
 use Rattle.goods.proofs.Sums.{sum-suc, sum-mono, sum-zero-all}
 use Rattle.goods.proofs.Portions.{given-le, givenTo, portionTo, portion-is, takers-kilos}

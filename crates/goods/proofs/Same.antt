@@ -1,11 +1,11 @@
 -- Works whose figures agree on 1 .. n have the same pools, and the same is left of them. Assumes nothing.
-use mathlib.Core.Path.{_≡_, refl, sym, ap, ap₂, _∙_}
+use mathlib.Core.Path.{_≡_, refl, ap}
 use mathlib.Core.List.{List, [], _∷_}
-use Prim.Native.Nat.{ℕ, zero, suc, _+_, _≤_}
+use Prim.Native.Nat.{ℕ, zero, suc, _≤_}
 use native.Mathlib.Nat.{le-refl}
 use native.Mathlib.Omega.{arith}
 use lib.ListN.{length, getD}
-use Rattle.goods.specs.Goods.{takers, portionOf, portionsTaken, poolsTo, poolOf, left, leftOf, Taker}
+use Rattle.goods.specs.Goods.{takers, portionsTaken, poolsTo, poolOf, leftOf}
 use Rattle.goods.proofs.Pools.{length-pools}
 
 takers-cong : (n : ℕ) (f g : ℕ → ℕ) → ((k : ℕ) → 1 ≤ k → k ≤ n → f k ≡ g k) → takers f n ≡ takers g n

@@ -1,17 +1,17 @@
 -- A works settled process by process, in arrays: what stands there once processes 1 .. i have passed their portions on. Assumes nothing.
-use mathlib.Core.Path.{_≡_, refl, sym, ap, _∙_}
+use mathlib.Core.Path.{_≡_, refl, sym, _∙_}
 use mathlib.Core.Bool.{Bool, true, false}
-use mathlib.Core.List.{List, [], _∷_}
+use mathlib.Core.List.{List}
 use Prim.Native.Nat.{ℕ, zero, suc, _+_, _^_, _≤_, _<_}
 use native.Mathlib.Decide.{le-ind, decLe}
-use native.Mathlib.Nat.{le-refl, le-trans, lt-of-not-le}
+use native.Mathlib.Nat.{le-trans, lt-of-not-le}
 use native.Mathlib.Omega.{arith}
 use lib.Dec.{eqb}
 use lib.ListN.{length, getD, set, replicate, length-set, length-replicate}
 use lib.Seq.{getD-set-same, getD-set-other}
 use borrow.Author.Tests.{eqb-true, eqb-false}
 use Rattle.goods.specs.Sums.{sumTo}
-use Rattle.goods.specs.Goods.{takers, portionOf, left, poolOf, leftOf}
+use Rattle.goods.specs.Goods.{takers, portionOf, poolOf, leftOf}
 use Rattle.goods.specs.Settling.{CanPassOn, PassedOn, Settleable, PoolsSettled}
 use Rattle.goods.proofs.Sums.{sum-suc, sum-mono}
 use Rattle.goods.proofs.Portions.{portion-is}

@@ -6,7 +6,7 @@ use lib.ListN.{length, getD}
 use Rattle.goods.specs.Sums.{sumTo}
 use Rattle.goods.specs.Goods.{takers, portionOf, left, poolOf, leftOf}
 
--- ---- places: processes are 1 .. 16, and place 0 is outside the works
+-- ---- places: processes are 1 .. PROCESSES, and place 0 is outside the works
 
 abbrev pub PROCESSES : ℕ
 PROCESSES = 16
@@ -16,6 +16,10 @@ SIZE = PROCESSES + 1
 
 abbrev pub PAIRS : ℕ
 PAIRS = SIZE * SIZE
+
+-- 2 ^ 61 kilograms, the most that `share` divides by: a sheet has at most 10,000,000,000
+abbrev pub largestOutput : ℕ
+largestOutput = 2305843009213693952
 
 -- the figure of process k
 abbrev pub figures : List ℕ → (k : ℕ) → ℕ
@@ -30,7 +34,7 @@ pairs l i j = getD l (i * SIZE + j) 0
 -- `room`: with its portion each pool still fits a word
 pub record CanPassOn (n from output : ℕ) (kilosTo : ℕ → ℕ) (pools : List ℕ) : Type 0 where
   pub some : 1 ≤ output
-  pub small : output ≤ 2305843009213693952
+  pub small : output ≤ largestOutput
   pub ahead : (j : ℕ) → 1 ≤ j → j ≤ from → kilosTo j ≡ 0
   pub within : sumTo n kilosTo ≤ output
   pub room : (k : ℕ) → 1 ≤ k → k ≤ n → getD pools k 0 + portionOf (getD pools from 0) output (takers kilosTo n) k < 2 ^ 64
@@ -46,7 +50,7 @@ pub record PassedOn (n pool output : ℕ) (kilosTo : ℕ → ℕ) (before after 
 
 pub record Settleable (n : ℕ) (output : ℕ → ℕ) (kilos : ℕ → ℕ → ℕ) (own : ℕ → ℕ) : Type 0 where
   pub some : (i : ℕ) → 1 ≤ i → i ≤ n → 1 ≤ output i
-  pub small : (i : ℕ) → 1 ≤ i → i ≤ n → output i ≤ 2305843009213693952
+  pub small : (i : ℕ) → 1 ≤ i → i ≤ n → output i ≤ largestOutput
   pub ahead : (i j : ℕ) → 1 ≤ j → j ≤ i → i ≤ n → kilos i j ≡ 0
   pub within : (i : ℕ) → 1 ≤ i → i ≤ n → sumTo n (kilos i) ≤ output i
   pub total : sumTo n own < 2 ^ 63

@@ -1,7 +1,6 @@
--- `share::with_bit` meets its contract, by the laws of long division. Assumes nothing.
+-- `goods::share::with_bit` meets its contract, by the laws of long division. Assumes nothing.
 use borrow.Author.Needs.{needs}
 use native.Mathlib.Nat.{mod-lt, lt-of-le-of-lt, le-add-right}
-use native.Mathlib.Omega.{arith}
 use Rattle.goods.proofs.Division.{doubled, added-fits, grown, made, quotient-fits}
 use Rattle.goods.proofs.share.with_bit.Statement.{statement}
 use Rattle.goods.proofs.share.with_bit.Tie as tie
