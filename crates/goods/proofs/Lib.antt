@@ -3,3 +3,7 @@ pub mod Cases
 pub mod Sums
 pub mod Portions
 pub mod Pools
+pub mod Same
+mod Passing
+mod Settling
+mod Division

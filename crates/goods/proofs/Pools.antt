@@ -7,7 +7,7 @@ use native.Mathlib.Nat.{mul-zero, zero-div, mul-le-mul-left, le-trans, le-refl}
 use lib.ListN.{length}
 use Rattle.goods.specs.Sums.{sumTo}
 use Rattle.goods.specs.Goods.{takers, portionOf, portionsTaken, poolsTo, poolOf, left, leftOf}
-use Rattle.goods.proofs.Sums.{sum-add, sum-ext, sum-le, sum-mono}
+use Rattle.goods.proofs.Sums.{sum-add, sum-ext, sum-le, sum-mono, sum-zero-all}
 use Rattle.goods.proofs.Portions.{div-mono, given-le, givenTo, portionTo, takers-kilos, portion-is}
 
 -- ---- what is given of one pool, process by process
@@ -17,7 +17,7 @@ module _ (pool output : ℕ) (m : ℕ → ℕ) where
   unfolding givenTo sumTo
   given-mono j = div-mono _ _ output (mul-le-mul-left pool (omega arith))
 
-  given-suc : (j : ℕ) → givenTo pool output m (suc j) ≡ givenTo pool output m j + portionTo pool output m (suc j)
+  pub given-suc : (j : ℕ) → givenTo pool output m (suc j) ≡ givenTo pool output m j + portionTo pool output m (suc j)
   unfolding portionTo
   given-suc j = let h = given-mono j in omega arith
 
@@ -25,7 +25,7 @@ module _ (pool output : ℕ) (m : ℕ → ℕ) where
   unfolding givenTo
   given-within n h = given-le pool (sumTo n m) output h
 
-  given-none : (j : ℕ) → sumTo j m ≡ 0 → givenTo pool output m j ≡ 0
+  pub given-none : (j : ℕ) → sumTo j m ≡ 0 → givenTo pool output m j ≡ 0
   unfolding givenTo
   given-none j e = rw (e, mul-zero pool) (zero-div output)
 
@@ -33,7 +33,7 @@ module _ (n : ℕ) (output : ℕ → ℕ) (kilos : ℕ → ℕ → ℕ) (own : �
   abbrev pool : ℕ → ℕ
   pool = poolOf n output kilos own
 
-  length-pools : (k : ℕ) → length (poolsTo n output kilos own k) ≡ k
+  pub length-pools : (k : ℕ) → length (poolsTo n output kilos own k) ≡ k
   unfolding poolsTo
   length-pools zero = refl
   length-pools (suc k) = ap suc (length-pools k)
@@ -76,11 +76,9 @@ module _ (n : ℕ) (output : ℕ → ℕ) (kilos : ℕ → ℕ → ℕ) (own : �
   left-is k = rw (takers-kilos (kilos k) n)
 
   -- ---- goods go from lower to higher numbers, and no more is taken than the output
-  module _ (forward : (i j : ℕ) → j ≤ i → kilos i j ≡ 0) where
-    none-before : (i j : ℕ) → j ≤ i → sumTo j (kilos i) ≡ 0
-    unfolding sumTo
-    none-before i zero h = refl
-    none-before i (suc j) h = let ih = none-before i j (omega arith) in let z = forward i (suc j) h in omega arith
+  module _ (ahead : (i j : ℕ) → 1 ≤ j → j ≤ i → i ≤ n → kilos i j ≡ 0) where
+    none-back : (k : ℕ) → k ≤ n → givenTo (pool k) (output k) (kilos k) k ≡ 0
+    none-back k h = given-none (pool k) (output k) (kilos k) k (sum-zero-all k (kilos k) (λ j l u. ahead k j l u h))
 
     -- all pools up to k, and what of them is passed on to 1 .. k
     passed-on : (k : ℕ) → k ≤ n → sumTo k pool ≡ sumTo k own + sumTo k (λ i. givenTo (pool i) (output i) (kilos i) k)
@@ -89,34 +87,34 @@ module _ (n : ℕ) (output : ℕ → ℕ) (kilos : ℕ → ℕ → ℕ) (own : �
     passed-on (suc k) h =
         let ih = passed-on k (omega arith) in
         let p = pool-over-all k h in
-        let z = given-none (pool (suc k)) (output (suc k)) (kilos (suc k)) (suc k) (none-before (suc k) (suc k) (le-refl (suc k))) in
+        let z = none-back (suc k) h in
         let s : sumTo k (λ i. givenTo (pool i) (output i) (kilos i) (suc k))
         ≡ sumTo k (λ i. givenTo (pool i) (output i) (kilos i) k) + sumTo k (λ i. portionTo (pool i) (output i) (kilos i) (suc k)) =
         sum-ext k _ _ (λ i. given-suc (pool i) (output i) (kilos i) k) ∙ sum-add k _ _ in
         omega arith
 
-    module _ (within : (i : ℕ) → 1 ≤ i → i ≤ n → sumTo n (kilos i) ≤ output i) where
-      -- no pool holds more than went into the processes up to it
-      pub pool-le : (k : ℕ) → suc k ≤ n → pool (suc k) ≤ sumTo (suc k) own
-      unfolding sumTo
-      pool-le k h =
-          let c = passed-on (suc k) h in
-          let s = sum-le k (λ i. givenTo (pool i) (output i) (kilos i) (suc k)) pool (λ i l u.
-          given-within (pool i) (output i) (kilos i) (suc k) (le-trans (sum-mono (suc k) n (kilos i) h) (within i l (omega arith)))) in
-          let z = given-none (pool (suc k)) (output (suc k)) (kilos (suc k)) (suc k) (none-before (suc k) (suc k) (le-refl (suc k))) in
-          omega arith
+    -- no pool holds more than went into the processes up to it
+    pub pool-le : ((i : ℕ) → 1 ≤ i → i ≤ n → sumTo n (kilos i) ≤ output i) → (k : ℕ) → suc k ≤ n → pool (suc k) ≤ sumTo (suc k) own
+    unfolding sumTo
+    pool-le within k h =
+        let c = passed-on (suc k) h in
+        let s = sum-le k (λ i. givenTo (pool i) (output i) (kilos i) (suc k)) pool (λ i l u.
+        given-within (pool i) (output i) (kilos i) (suc k) (le-trans (sum-mono (suc k) n (kilos i) h) (within i l (omega arith)))) in
+        let z = none-back (suc k) h in
+        omega arith
 
-      -- WHAT IS LEFT IN ALL POOLS IS WHAT WENT INTO THEM
-      pub left-sum : sumTo n (leftOf n output kilos own) ≡ sumTo n own
-      unfolding sumTo
-      left-sum = let c = passed-on n (le-refl n) in let d = back n (le-refl n) in omega arith
-        where
-          back : (k : ℕ) → k ≤ n → sumTo k (leftOf n output kilos own) + sumTo k (λ i. givenTo (pool i) (output i) (kilos i) n) ≡ sumTo k pool
-          back zero h = refl
-          back (suc k) h =
-              omega (
-                arith,
-                back k (omega arith),
-                left-is (suc k),
-                given-within (pool (suc k)) (output (suc k)) (kilos (suc k)) n (within (suc k) (omega arith) h),
-              )
+  module _ (forward : (i j : ℕ) → j ≤ i → kilos i j ≡ 0) (within : (i : ℕ) → 1 ≤ i → i ≤ n → sumTo n (kilos i) ≤ output i) where
+    -- WHAT IS LEFT IN ALL POOLS IS WHAT WENT INTO THEM
+    pub left-sum : sumTo n (leftOf n output kilos own) ≡ sumTo n own
+    unfolding sumTo
+    left-sum = let c = passed-on (λ i j l u h. forward i j u) n (le-refl n) in let d = back n (le-refl n) in omega arith
+      where
+        back : (k : ℕ) → k ≤ n → sumTo k (leftOf n output kilos own) + sumTo k (λ i. givenTo (pool i) (output i) (kilos i) n) ≡ sumTo k pool
+        back zero h = refl
+        back (suc k) h =
+            omega (
+              arith,
+              back k (omega arith),
+              left-is (suc k),
+              given-within (pool (suc k)) (output (suc k)) (kilos (suc k)) n (within (suc k) (omega arith) h),
+            )

@@ -2,3 +2,5 @@
 pub mod Sums
 pub mod Goods
 pub mod Cases
+pub mod Division
+pub mod Settling

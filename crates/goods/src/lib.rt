@@ -1,1 +1,79 @@
 // Document 01, "Goods and precursors": pools, portions and what is left. The definitions are in specs/.
+ghost use mathlib.Core.Path.{_≡_};
+ghost use Prim.Native.Nat.{_≤_};
+ghost use lib.ListN.{length, getD};
+ghost use Rattle.goods.specs.Settling.{PROCESSES, SIZE, figures, pairs, CanPassOn, PassedOn, Settleable, PoolsSettled};
+use quantity::Grams;
+use quantity::Kilos;
+use share::share;
+
+mod share;
+
+// A works has at most this many processes, numbered from 1.
+pub const PROCESSES: usize = 16;
+
+// Figures stand at the process's number; place 0 is outside the works.
+pub const SIZE: usize = PROCESSES + 1;
+
+// Kilograms from process i to process j stand at i * SIZE + j.
+pub const PAIRS: usize = SIZE * SIZE;
+
+// Grams: each process's pool, and what is left of it.
+pub struct Settled {
+    pub pools: [u64; SIZE],
+    pub lefts: [u64; SIZE],
+}
+
+// Process `from` passes portions of its pool on to its takers, by rising number; the result is what is left. In document 01's terms `taken` is
+// C(k−1) and `through` C(k), `given` is ⌊P × C(k−1)/A⌋ and `next` ⌊P × C(k)/A⌋.
+fn pass_on(
+    pools: &mut [u64; SIZE],
+    output: u64,
+    kilos: &[u64; PAIRS],
+    from: usize,
+    count: usize,
+) -> u64
+    requires { ⌜ (from ≤ count) × (count ≤ PROCESSES) ⌝ }
+    requires { ⌜ length (now pools) ≡ SIZE ⌝ }
+    requires { ⌜ CanPassOn count from output (pairs (now kilos) from) (now pools) ⌝ }
+    ensures { λ r. ⌜ PassedOn count (getD (now (pools .entry)) from 0) output (pairs (now (kilos .entry)) from) (now (pools .entry)) (now (pools .exit)) r ⌝ }
+{
+    let pool = pools[from];
+    let mut taken = 0;
+    let mut given = 0;
+    let mut to = from;
+    while to < count {
+        to += 1;
+        let at = from * SIZE + to;
+        let kg = kilos[at];
+        if kg > 0 {
+            let through = taken + kg;
+            let next = share(Grams(pool), Kilos(through), Kilos(output));
+            pools[to] = pools[to] + (next.0 - given);
+            taken = through;
+            given = next.0;
+        }
+    }
+    pool - given
+}
+
+// The pools of processes 1 .. count, settled one after the other, and what is left of each. `own` is the attribution of a process and its bought grams.
+pub fn settle(own: [u64; SIZE], outputs: [u64; SIZE], kilos: &[u64; PAIRS], count: usize) -> Settled
+    requires { ⌜ count ≤ PROCESSES ⌝ }
+    requires { ⌜ Settleable count (figures outputs) (pairs (now kilos)) (figures own) ⌝ }
+    ensures { λ r. ⌜ PoolsSettled SIZE count (figures outputs) (pairs (now (kilos .entry))) (figures own) (r .pools) (r .lefts) ⌝ }
+{
+    let mut pools = own;
+    let mut lefts = [0; SIZE];
+    let mut i = 1;
+    while i <= count {
+        let output = outputs[i];
+        let left = pass_on(&mut pools, output, kilos, i, count);
+        lefts[i] = left;
+        i += 1;
+    }
+    Settled {
+        pools: pools,
+        lefts: lefts,
+    }
+}

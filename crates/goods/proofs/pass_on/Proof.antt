@@ -1,0 +1,130 @@
+-- `goods::pass_on` meets its contract. The loop's invariant: processes up to `to` have had their portions (`Passing`). The measure is how many
+-- processes are left. Assumes nothing.
+use Prim.Native.Nat.{_+_, _-_, _≤_, _<_}
+use mathlib.Core.Path.{refl}
+use native.Mathlib.Omega.{arith}
+use Rattle.goods.specs.Settling.{pairs}
+use Rattle.goods.proofs.Passing.{Passing, passing-none, passing-skip, passing-next, next-rises, pool-fits, taken-fits, given-fits, passing-all}
+use Rattle.goods.proofs.pass_on.Statement.{statement}
+use Rattle.goods.proofs.pass_on.Tie as tie
+
+abbrev Inv-loop : tie.InvT-loop
+Inv-loop pools₀ output kilos from count pool taken₀ given₀ to₀ pools taken given to =
+    (from ≤ to) × (to ≤ count) × (Passing pool output (pairs kilos from) pools₀ to taken given pools)
+
+abbrev μ-loop : tie.MeasureT-loop
+μ-loop pools₀ output kilos from count pool taken₀ given₀ to₀ pools taken given to = count - to
+
+mul-pool : tie.Need-mul-pool Inv-loop μ-loop
+mul-pool c = omega arith
+
+element-copy-out-pool : tie.Need-element-copy-out-pool Inv-loop μ-loop
+element-copy-out-pool c = omega arith
+
+loop-holds : tie.Need-loop-holds Inv-loop μ-loop
+loop-holds c =
+    let s = c .before in
+    (omega arith, s .pre .0 .0, passing-none _ _ _ _ (s .args .from) (s .pre .1 .1 .ahead))
+
+-- in a turn: the kilograms taken so far are within the output
+taken-within : (h : tie.At-loop Inv-loop μ-loop) → h .loop .to < h .before .before .args .count
+    → h .loop .taken + pairs (h .before .before .args .kilos .now) (h .before .before .args .from) (h .loop .to + 1) ≤ h .before .before .args .output
+taken-within h l = taken-fits (h .loop .inv .2) (h .before .before .args .count) (h .before .before .pre .1 .1 .within) l
+
+add-to : tie.Need-add-to Inv-loop μ-loop
+add-to c = omega arith
+
+mul-at : tie.Need-mul-at Inv-loop μ-loop
+mul-at c = omega arith
+
+add-at : tie.Need-add-at Inv-loop μ-loop
+add-at c = omega arith
+
+mul-kg : tie.Need-mul-kg Inv-loop μ-loop
+mul-kg c = omega arith
+
+element-copy-out-kg : tie.Need-element-copy-out-kg Inv-loop μ-loop
+element-copy-out-kg c = omega arith
+
+add-through : tie.Need-add-through Inv-loop μ-loop
+add-through c = omega (arith, taken-within (c .before .before .before) (c .before .before .loop-test .taken))
+
+share-requires : tie.Need-share-requires Inv-loop μ-loop
+share-requires c κs =
+    let h = c .before .before .before in
+    let p = h .before .before .pre .1 .1 in
+    omega (arith, taken-within h (c .before .before .loop-test .taken))
+
+mul-pools : tie.Need-mul-pools Inv-loop μ-loop
+mul-pools c = omega arith
+
+element-copy-out-pools : tie.Need-element-copy-out-pools Inv-loop μ-loop
+element-copy-out-pools c = omega arith
+
+sub-pools : tie.Need-sub-pools Inv-loop μ-loop
+sub-pools c = let h = c .before .before .before .before .before .before in next-rises (h .loop .inv .2) (c .before .before .share .ensures .0)
+
+add-pools : tie.Need-add-pools Inv-loop μ-loop
+add-pools c =
+    let h = c .before .before .before .before .before .before in
+    let l = c .before .before .before .before .before .loop-test .taken in
+    record { fits = pool-fits (h .loop .inv .2) (c .before .before .share .ensures .0) (h .before .before .args .from) refl (h .before .before .pre .1 .1) l }
+
+mul-pools-2 : tie.Need-mul-pools-2 Inv-loop μ-loop
+mul-pools-2 c = omega arith
+
+element-write-pools : tie.Need-element-write-pools Inv-loop μ-loop
+element-write-pools c = omega arith
+
+loop-less : tie.Need-loop-less Inv-loop μ-loop
+loop-less c = omega arith
+
+loop-again : tie.Need-loop-again Inv-loop μ-loop
+loop-again c =
+    let h = c .before .before .before .before .before .before in
+    (omega arith, omega arith, passing-next (h .loop .inv .2) (c .before .before .share .ensures .0) (omega (arith, h .before .before .pre .1 .0)))
+
+loop-less-2 : tie.Need-loop-less-2 Inv-loop μ-loop
+loop-less-2 c = omega arith
+
+loop-again-2 : tie.Need-loop-again-2 Inv-loop μ-loop
+loop-again-2 c =
+    let h = c .before .before .before in
+    (omega arith, omega arith, passing-skip (h .loop .inv .2) (omega arith))
+
+sub-result : tie.Need-sub-result Inv-loop μ-loop
+sub-result c =
+    let h = c .before in
+    omega (arith, given-fits (h .loop .inv .2) (h .before .before .args .count) (h .before .before .pre .1 .1 .within) (omega arith))
+
+returns : tie.Need-returns Inv-loop μ-loop
+returns c = let h = c .before in passing-all (h .loop .inv .2) (h .before .before .args .count) (omega arith)
+
+pub pass-on-spec : {M : Type 1} → statement M
+pass-on-spec =
+    tie.close
+    (tie.spec
+    Inv-loop
+    μ-loop
+    mul-pool
+    element-copy-out-pool
+    loop-holds
+    add-to
+    mul-at
+    add-at
+    mul-kg
+    element-copy-out-kg
+    add-through
+    share-requires
+    mul-pools
+    element-copy-out-pools
+    sub-pools
+    add-pools
+    mul-pools-2
+    element-write-pools
+    loop-less
+    loop-again
+    loop-less-2
+    loop-again-2
+    sub-result
+    returns)

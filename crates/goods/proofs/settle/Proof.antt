@@ -1,0 +1,71 @@
+-- `goods::settle` meets its contract. The loop's invariant: the processes before `i` have passed their portions on (`Settling`). The measure is how many
+-- are left. Assumes nothing.
+use Prim.Native.Nat.{_+_, _-_, _≤_}
+use mathlib.Core.Path.{_≡_, refl}
+use borrow.Author.Needs.{needs}
+use native.Mathlib.Omega.{arith}
+use Rattle.goods.specs.Settling.{SIZE, figures, pairs}
+use Rattle.goods.proofs.Settling.{Settling, settling-none, settling-can, settling-next, settling-all}
+use Rattle.goods.proofs.settle.Statement.{statement}
+use Rattle.goods.proofs.settle.Tie as tie
+
+abbrev Inv-loop : tie.InvT-loop
+Inv-loop kilos count outputs pools₀ lefts₀ i₀ pools lefts i =
+    (1 ≤ i) × (i ≤ count + 1) × (Settling count (figures outputs) (pairs kilos) (figures pools₀) SIZE (i - 1) pools lefts)
+
+abbrev μ-loop : tie.MeasureT-loop
+μ-loop kilos count outputs pools₀ lefts₀ i₀ pools lefts i = count + 1 - i
+
+loop-holds : tie.Need-loop-holds Inv-loop μ-loop
+loop-holds c = (omega arith, omega arith, settling-none _ _ _ _ SIZE (c .args .own) (search needs) (λ k. refl))
+
+mul-output : tie.Need-mul-output Inv-loop μ-loop
+mul-output c = omega arith
+
+array-read-output : tie.Need-array-read-output Inv-loop μ-loop
+array-read-output c = omega arith
+
+pass-on-requires : tie.Need-pass-on-requires Inv-loop μ-loop
+pass-on-requires c κs =
+    let h = c .before .before in (
+      (omega arith, h .before .pre .0),
+      (h .loop .inv .2 .pools-size, settling-can (h .before .pre .1) (h .loop .inv .2) (omega arith) (omega arith)),
+    )
+
+mul-lefts : tie.Need-mul-lefts Inv-loop μ-loop
+mul-lefts c = omega arith
+
+array-write-lefts : tie.Need-array-write-lefts Inv-loop μ-loop
+array-write-lefts c = omega arith
+
+add-i : tie.Need-add-i Inv-loop μ-loop
+add-i c = omega arith
+
+loop-less : tie.Need-loop-less Inv-loop μ-loop
+loop-less c = omega arith
+
+loop-again : tie.Need-loop-again Inv-loop μ-loop
+loop-again c =
+    let h = c .before .before .before in
+    let e : h .loop .i + 1 - 1 ≡ h .loop .i = omega arith in
+    (omega arith, omega arith, rw e (settling-next (h .before .pre .1) (h .loop .inv .2) (omega arith) (omega arith) (omega arith) (c .pass-on .ensures)))
+
+returns : tie.Need-returns Inv-loop μ-loop
+returns c = let h = c .before in settling-all (h .before .pre .1) (h .loop .inv .2) (omega arith)
+
+pub settle-spec : {M : Type 1} → statement M
+settle-spec =
+    tie.close
+    (tie.spec
+    Inv-loop
+    μ-loop
+    loop-holds
+    mul-output
+    array-read-output
+    pass-on-requires
+    mul-lefts
+    array-write-lefts
+    add-i
+    loop-less
+    loop-again
+    returns)
