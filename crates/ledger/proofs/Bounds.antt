@@ -1,5 +1,5 @@
 -- The size of the figures, and the lengths of the arrays, as entries are booked. Assumes nothing.
-use mathlib.Core.Path.{_≡_, refl, _∙_}
+use mathlib.Core.Path.{_≡_, _∙_}
 use mathlib.Core.List.{List}
 use Prim.Native.Nat.{ℕ, zero, suc, _+_, _≤_}
 use native.Mathlib.Nat.{le-refl, le-trans, lt-of-not-le}

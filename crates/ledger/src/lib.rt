@@ -54,24 +54,15 @@ pub fn empty() -> Ledger
     }
 }
 
-// A signed figure with grams added.
-fn plus(held: i64, amount: Grams) -> i64
+// A signed figure with grams added and grams taken off.
+fn changed(held: i64, more: Grams, less: Grams) -> i64
     requires { ⌜ natAbs held ≤ 9210000000000000000 ⌝ }
-    requires { ⌜ amount .0 ≤ STEP ⌝ }
-    ensures { λ r. ⌜ r ≡ held +ℤ pos (amount .0) ⌝ }
+    requires { ⌜ (more .0 ≤ STEP) × (less .0 ≤ STEP) ⌝ }
+    ensures { λ r. ⌜ r ≡ held +ℤ pos (more .0) -ℤ pos (less .0) ⌝ }
 {
-    let grams = amount.0;
-    held + (grams as i64)
-}
-
-// A signed figure with grams taken off.
-fn minus(held: i64, amount: Grams) -> i64
-    requires { ⌜ natAbs held ≤ 9210000000000000000 ⌝ }
-    requires { ⌜ amount .0 ≤ STEP ⌝ }
-    ensures { λ r. ⌜ r ≡ held -ℤ pos (amount .0) ⌝ }
-{
-    let grams = amount.0;
-    held - (grams as i64)
+    let plus = more.0;
+    let minus = less.0;
+    held + (plus as i64) - (minus as i64)
 }
 
 // The balances with the charge added and the credit taken off.
@@ -81,14 +72,15 @@ fn with_balances(l: Ledger, e: Entry) -> Ledger
     ensures { λ r. ⌜ r ≡ balanced l e ⌝ }
 {
     let mut next = l;
+    let none = Grams(0);
     let to = e.charged;
     let charge = e.charge;
     let held = next.balances[to];
-    next.balances[to] = plus(held, charge);
+    next.balances[to] = changed(held, charge, none);
     let from = e.credited;
     let credit = e.credit;
     let kept = next.balances[from];
-    next.balances[from] = minus(kept, credit);
+    next.balances[from] = changed(kept, none, credit);
     next
 }
 
@@ -106,8 +98,7 @@ pub fn book(l: Ledger, e: Entry) -> Ledger
     next.bought_indirect[buyer] += e.indirect.0;
     let entering = e.entering;
     let leaving = e.leaving;
-    let entered = plus(next.entered, entering);
-    next.entered = minus(entered, leaving);
+    next.entered = changed(next.entered, entering, leaving);
     next.uncredited += e.lost.0;
     next
 }
@@ -126,7 +117,8 @@ pub struct RaisedAll {
 
 pub fn raise(balance: i64) -> Raised
     requires { ⌜ natAbs balance ≤ 9200000000000000000 ⌝ }
-    ensures { λ r. ⌜ (r .direct .0 ≡ raisedToZero balance) × (r .raised .0 ≡ gramsAdded balance) ⌝ }
+    ensures direct { λ r. ⌜ r .direct .0 ≡ raisedToZero balance ⌝ }
+    ensures raised { λ r. ⌜ r .raised .0 ≡ gramsAdded balance ⌝ }
 {
     if balance < 0 {
         return Raised {

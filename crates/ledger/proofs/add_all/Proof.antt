@@ -1,5 +1,6 @@
+-- `ledger::add_all` meets its contract. The loop's invariant: the column stands up to the processes done. Assumes nothing.
 use mathlib.Core.Path.{_≡_, refl}
-use Prim.Native.Nat.{_+_, _-_, _≤_, _<_}
+use Prim.Native.Nat.{_+_, _-_, _≤_}
 use native.Mathlib.Omega.{arith}
 use borrow.Author.Needs.{needs}
 use lib.ListN.{getD}
@@ -7,8 +8,6 @@ use Rattle.ledger.specs.Columns.{Column}
 use Rattle.ledger.proofs.Columns.{column-none, column-more}
 use Rattle.ledger.proofs.add_all.Statement.{statement}
 use Rattle.ledger.proofs.add_all.Tie as tie
-use Rattle.ledger.proofs.add_all.Reads as reads
-use Rattle.ledger.proofs.add_all.Lts as lts
 
 abbrev Inv-loop : tie.InvT-loop
 Inv-loop count a b both₀ done₀ both done =

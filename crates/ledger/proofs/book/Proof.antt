@@ -1,44 +1,35 @@
+-- `ledger::book` meets its contract. Assumes nothing.
 use mathlib.Core.Path.{_≡_}
-use Prim.Native.Nat.{_+_, _≤_}
 use native.Mathlib.Omega.{arith}
 use borrow.Author.Needs.{needs}
-use lib.IntN.{ℤ, pos, natAbs, _+ℤ_, _-ℤ_}
+use lib.IntN.{ℤ, pos, _+ℤ_, _-ℤ_}
 use mir.Syntax.{w64}
 use mir.Val.{toZ, ofZ}
-use Rattle.ledger.specs.Ledger.{balanced, booked}
-use Rattle.ledger.proofs.Sizes.{kept, size-plus, size-minus}
+use Rattle.ledger.specs.Ledger.{STEP, balanced, booked}
+use Rattle.ledger.proofs.Sizes.{kept, size-moved}
 use Rattle.ledger.proofs.book.Statement.{statement}
 use Rattle.ledger.proofs.book.Tie as tie
-use Rattle.ledger.proofs.book.Reads as reads
-use Rattle.ledger.proofs.book.Lts as lts
-use Rattle.ledger.proofs.minus.Reads as minus-reads
-use Rattle.ledger.proofs.plus.Reads as plus-reads
-use Rattle.ledger.proofs.with_balances.Reads as with-balances-reads
 
--- what entered, which fits on the way
+-- what entered, which fits before and after
 module _ (c : tie.Start) where
-  abbrev more : ℤ
-  more = c .args .l .entered +ℤ pos (c .args .e .entering .0)
-
   abbrev outcome : ℤ
-  outcome = more -ℤ pos (c .args .e .leaving .0)
+  outcome = c .args .l .entered +ℤ pos (c .args .e .entering .0) -ℤ pos (c .args .e .leaving .0)
 
   entered-fits : toZ w64 (ofZ w64 (c .args .l .entered)) ≡ c .args .l .entered
   entered-fits = kept _ (omega (arith, c .pre .0 .entered))
 
-  more-small : natAbs more ≤ 9210000000000000000
-  more-small = omega (arith, size-plus (c .args .l .entered) (c .args .e .entering .0), c .pre .0 .entered, c .pre .1 .entering)
-
-  more-fits : toZ w64 (ofZ w64 more) ≡ more
-  more-fits = kept more (omega (arith, more-small))
-
   outcome-fits : toZ w64 (ofZ w64 outcome) ≡ outcome
   outcome-fits =
-      kept outcome (omega (arith, size-minus more (c .args .e .leaving .0), more-small, c .pre .1 .leaving))
+      kept outcome (
+      omega (
+        arith,
+        size-moved STEP (c .args .l .entered) (c .args .e .entering .0) (c .args .e .leaving .0) (c .pre .1 .entering) (c .pre .1 .leaving),
+        c .pre .0 .entered,
+      ))
 
-plus-is : (c : tie.After-plus) → c .plus .result ≡ more (c .before .before .before .before .before .before .before .before .before .before .before)
+after-changed : (c : tie.After-changed) → c .changed .result ≡ outcome (c .before .before .before .before .before .before .before .before .before .before .before)
 unfolding balanced
-plus-is c = simp (c .before .before .before .before .before .before .before .before .before .before .with-balances .ensures, entered-fits (c .before .before .before .before .before .before .before .before .before .before .before)) at (c .plus .ensures)
+after-changed c = simp (c .before .before .before .before .before .before .before .before .before .before .with-balances .ensures, entered-fits (c .before .before .before .before .before .before .before .before .before .before .before)) at (c .changed .ensures)
 
 with-balances-requires : tie.Need-with-balances-requires
 with-balances-requires c κs = search needs
@@ -88,28 +79,24 @@ add-next-3 c =
 element-write-next-3 : tie.Need-element-write-next-3
 element-write-next-3 c = search needs
 
-plus-requires : tie.Need-plus-requires
+changed-requires : tie.Need-changed-requires
 unfolding balanced
-plus-requires c κs =
+changed-requires c κs =
     let k = c .before .before .before .before .before .before .before .before .before in
-    simp (k .with-balances .ensures, entered-fits (k .before)) (omega (arith, k .before .pre .0 .entered), k .before .pre .1 .entering)
-
-minus-requires : tie.Need-minus-requires
-minus-requires c κs =
-    let k = c .before .before .before .before .before .before .before .before .before .before .before in
-    simp (plus-is c, more-fits k) (more-small k, k .pre .1 .leaving)
+    simp (k .with-balances .ensures, entered-fits (k .before))
+    (omega (arith, k .before .pre .0 .entered), (k .before .pre .1 .entering, k .before .pre .1 .leaving))
 
 add-next-4 : tie.Need-add-next-4
 unfolding balanced
 add-next-4 c =
-    let k = c .before .before .before .before .before .before .before .before .before .before .before .before in
+    let k = c .before .before .before .before .before .before .before .before .before .before .before in
     rw (k .with-balances .ensures) (record { fits = omega (arith, k .before .pre .0 .uncredited, k .before .pre .1 .lost) })
 
 returns : tie.Need-returns
 unfolding balanced booked
 returns c =
-    let k = c .before .before .before .before .before .before .before .before .before .before .before .before in
-    simp (k .with-balances .ensures, c .before .minus .ensures, plus-is (c .before .before), more-fits (k .before), outcome-fits (k .before))
+    let k = c .before .before .before .before .before .before .before .before .before .before .before in
+    simp (k .with-balances .ensures, after-changed (c .before), outcome-fits (k .before))
 
 pub book-spec : {M : Type 1} → statement M
 book-spec =
@@ -128,7 +115,6 @@ book-spec =
     element-copy-out-next-3
     add-next-3
     element-write-next-3
-    plus-requires
-    minus-requires
+    changed-requires
     add-next-4
     returns)

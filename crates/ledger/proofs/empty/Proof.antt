@@ -1,9 +1,8 @@
+-- `ledger::empty` meets its contract. Assumes nothing.
 use mathlib.Core.Path.{refl}
 use Rattle.ledger.specs.Ledger.{start}
 use Rattle.ledger.proofs.empty.Statement.{statement}
 use Rattle.ledger.proofs.empty.Tie as tie
-use Rattle.ledger.proofs.empty.Reads as reads
-use Rattle.ledger.proofs.empty.Lts as lts
 
 returns : tie.Need-returns
 unfolding start

@@ -1,3 +1,4 @@
+-- `ledger::raise` meets its contract, below zero and above. Assumes nothing.
 use mathlib.Core.Path.{_≡_}
 use Prim.Native.Nat.{_≤_}
 use native.Mathlib.Omega.{arith}

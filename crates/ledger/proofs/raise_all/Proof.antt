@@ -1,5 +1,6 @@
-use mathlib.Core.Path.{_≡_, refl}
-use Prim.Native.Nat.{ℕ, _+_, _-_, _≤_, _<_}
+-- `ledger::raise_all` meets its contract. The loop's invariant: both columns stand up to the processes done. Assumes nothing.
+use mathlib.Core.Path.{_≡_}
+use Prim.Native.Nat.{ℕ, _+_, _-_, _≤_}
 use native.Mathlib.Omega.{arith}
 use borrow.Author.Needs.{needs}
 use lib.IntN.{pos}
@@ -12,9 +13,6 @@ use Rattle.ledger.specs.Columns.{Column}
 use Rattle.ledger.proofs.Columns.{column-none, column-more}
 use Rattle.ledger.proofs.raise_all.Statement.{statement}
 use Rattle.ledger.proofs.raise_all.Tie as tie
-use Rattle.ledger.proofs.raise_all.Reads as reads
-use Rattle.ledger.proofs.raise_all.Lts as lts
-use Rattle.ledger.proofs.raise.Reads as raise-reads
 
 abbrev Inv-loop : tie.InvT-loop
 Inv-loop count balances direct₀ raised₀ done₀ direct raised done =

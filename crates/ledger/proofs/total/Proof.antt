@@ -1,5 +1,6 @@
+-- `ledger::total` meets its contract. The loop's invariant: the sum of the processes done. Assumes nothing.
 use mathlib.Core.Path.{_≡_, refl}
-use Prim.Native.Nat.{ℕ, _+_, _-_, _≤_, _<_}
+use Prim.Native.Nat.{ℕ, _+_, _-_, _≤_}
 use native.Mathlib.Numerals.{add-one}
 use native.Mathlib.Omega.{arith}
 use borrow.Author.Needs.{needs}
@@ -8,8 +9,6 @@ use Rattle.goods.specs.Sums.{sumTo}
 use Rattle.goods.proofs.Sums.{sum-mono, sum-suc}
 use Rattle.ledger.proofs.total.Statement.{statement}
 use Rattle.ledger.proofs.total.Tie as tie
-use Rattle.ledger.proofs.total.Reads as reads
-use Rattle.ledger.proofs.total.Lts as lts
 
 -- one process more
 next : (n : ℕ) (f : ℕ → ℕ) → sumTo (n + 1) f ≡ sumTo n f + f (n + 1)

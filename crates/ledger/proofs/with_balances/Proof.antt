@@ -1,9 +1,10 @@
-use mathlib.Core.Path.{_≡_}
+-- `ledger::with_balances` meets its contract. Assumes nothing.
+use mathlib.Core.Path.{_≡_, ap, _∙_}
 use mathlib.Core.List.{List}
-use Prim.Native.Nat.{ℕ, _≤_}
+use Prim.Native.Nat.{_≤_}
 use native.Mathlib.Omega.{arith}
 use borrow.Author.Needs.{needs}
-use lib.IntN.{ℤ, pos, natAbs, _+ℤ_, _-ℤ_}
+use lib.IntN.{ℤ, pos, natAbs, _+ℤ_, _-ℤ_, +ℤ-idr}
 use lib.ListN.{getD, set}
 use mir.Syntax.{w64}
 use mir.Val.{toZ, ofZ}
@@ -12,10 +13,6 @@ use Rattle.ledger.proofs.Sizes.{kept, size-plus, size-minus}
 use Rattle.ledger.proofs.Bounds.{each-charged}
 use Rattle.ledger.proofs.with_balances.Statement.{statement}
 use Rattle.ledger.proofs.with_balances.Tie as tie
-use Rattle.ledger.proofs.with_balances.Reads as reads
-use Rattle.ledger.proofs.with_balances.Lts as lts
-use Rattle.ledger.proofs.minus.Reads as minus-reads
-use Rattle.ledger.proofs.plus.Reads as plus-reads
 
 -- the figures on the way, which all fit
 module _ (c : tie.Start) where
@@ -58,8 +55,16 @@ module _ (c : tie.Start) where
   less-fits : toZ w64 (ofZ w64 less) ≡ less
   less-fits = kept less (omega (arith, size-minus left (c .args .e .credit .0), left-small, c .pre .1 .moved))
 
-plus-is : (c : tie.After-plus) → c .plus .result ≡ more (c .before .before .before)
-plus-is c = simp (held-fits (c .before .before .before)) at (c .plus .ensures)
+after-charge : (c : tie.After-changed) → c .changed .result ≡ more (c .before .before .before)
+after-charge c =
+    let k = c .before .before .before in
+    (simp (held-fits k) at (c .changed .ensures)) ∙ +ℤ-idr (more k)
+
+after-credit : (c : tie.After-changed2) → c .changed2 .result ≡ less (c .before .before .before .before .before .before)
+after-credit c =
+    let k = c .before .before .before .before .before .before in
+    (simp (after-charge (c .before .before .before), more-fits k, left-fits k) at (c .changed2 .ensures))
+    ∙ ap (λ (z : ℤ). z -ℤ pos (k .args .e .credit .0)) (+ℤ-idr (left k))
 
 mul-held : tie.Need-mul-held
 mul-held c = search needs
@@ -67,10 +72,10 @@ mul-held c = search needs
 element-copy-out-held : tie.Need-element-copy-out-held
 element-copy-out-held c = search needs
 
-plus-requires : tie.Need-plus-requires
-plus-requires c κs =
+changed-requires : tie.Need-changed-requires
+changed-requires c κs =
     let k = c .before .before in
-    simp (held-fits k) (omega (arith, k .pre .0 .balances (k .args .e .charged)), omega (arith, k .pre .1 .moved))
+    rw (held-fits k) (omega (arith, k .pre .0 .balances (k .args .e .charged)), (omega (arith, k .pre .1 .moved), omega arith))
 
 mul-kept : tie.Need-mul-kept
 mul-kept c = search needs
@@ -84,13 +89,13 @@ mul-kept-2 c = search needs
 element-copy-out-kept : tie.Need-element-copy-out-kept
 element-copy-out-kept c = search needs
 
-minus-requires : tie.Need-minus-requires
-minus-requires c κs =
+changed-requires-2 : tie.Need-changed-requires-2
+changed-requires-2 c κs =
     let k = c .before .before .before .before .before in
-    simp (plus-is (c .before .before), more-fits k, left-fits k) (left-small k, omega (arith, k .pre .1 .moved))
+    simp (after-charge (c .before .before), more-fits k, left-fits k) (left-small k, (omega arith, omega (arith, k .pre .1 .moved)))
 
-mul-t10 : tie.Need-mul-t10
-mul-t10 c = search needs
+mul-t11 : tie.Need-mul-t11
+mul-t11 c = search needs
 
 element-set-from-next : tie.Need-element-set-from-next
 element-set-from-next c = search needs
@@ -99,7 +104,7 @@ returns : tie.Need-returns
 unfolding balanced chargedAndCredited
 returns c =
     let k = c .before .before .before .before .before .before in
-    simp (c .minus .ensures, plus-is (c .before .before .before), more-fits k, left-fits k, less-fits k)
+    simp (after-credit c, after-charge (c .before .before .before), more-fits k, less-fits k)
 
 pub with-balances-spec : {M : Type 1} → statement M
 with-balances-spec =
@@ -107,12 +112,12 @@ with-balances-spec =
     (tie.spec
     mul-held
     element-copy-out-held
-    plus-requires
+    changed-requires
     mul-kept
     element-set-from-kept
     mul-kept-2
     element-copy-out-kept
-    minus-requires
-    mul-t10
+    changed-requires-2
+    mul-t11
     element-set-from-next
     returns)
