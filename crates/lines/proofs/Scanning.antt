@@ -205,9 +205,10 @@ module _ (s : List ℕ) (start : ℕ) (f : Scanned) (k : ScannedAt s start f) wh
       rw (getD-take (fieldLength (drop start s)) (drop start s) 0 0 h, getD-drop) (ap (λ (n : ℕ). getD s n 0) (let e : start + 0 ≡ start = omega arith in e))
 
   done : (said : Said) → said ≡ saidOf (fieldOf (fieldAt s start)) → FieldDone s start said (f .end)
-  done said e =
-      (record { said = e; end = k .end },
-      record { least = omega (arith, k .end); most = k .most; capped = rw e (said-capped (fieldOf (fieldAt s start))) })
+  done said e = (
+    record { said = e; end = k .end },
+    record { least = omega (arith, k .end); most = k .most; capped = rw e (said-capped (fieldOf (fieldAt s start))) },
+  )
 
   pub done-none : f .end ≡ start → FieldDone s start Other (f .end)
   done-none h = done Other (sym (said-none (fieldAt s start) (omega (arith, long))))

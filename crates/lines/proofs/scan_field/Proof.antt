@@ -68,11 +68,11 @@ loop-again c =
     let l = d .before .before in
     ⊎-elim
     (λ w.
-        rw (w .3, w .4, w .2 .ensures, w .1 .ensures)
-        (digit-scanned _ _ _ _ _ (l .before .loop .inv) (l .loop-test .taken) (sym (d .is-digit .ensures) ∙ w .0 .taken)))
+    rw (w .3, w .4, w .2 .ensures, w .1 .ensures)
+    (digit-scanned _ _ _ _ _ (l .before .loop .inv) (l .loop-test .taken) (sym (d .is-digit .ensures) ∙ w .0 .taken)))
     (λ w.
-        rw (w .3, w .4)
-        (other-scanned _ _ _ _ _ (l .before .loop .inv) (l .loop-test .taken) (w .2 .left) (w .1 .left) (sym (d .is-digit .ensures) ∙ w .0 .left)))
+    rw (w .3, w .4)
+    (other-scanned _ _ _ _ _ (l .before .loop .inv) (l .loop-test .taken) (w .2 .left) (w .1 .left) (sym (d .is-digit .ensures) ∙ w .0 .left)))
     (c .if1 .came)
 
 returns-3 : tie.Need-returns-3 Inv-loop μ-loop
