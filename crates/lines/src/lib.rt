@@ -1,4 +1,13 @@
 // Document 01, "The sheet": bytes to lines, fields and records. The definitions are in specs/.
+ghost use mathlib.Core.Path.{_≡_};
+ghost use mathlib.Core.Bool.{_&&_};
+ghost use Prim.Native.Nat.{_+_, _-_, min, _≤_};
+ghost use lib.ListN.{length, take, drop};
+ghost use Rattle.decimal.specs.Number.{isDigit};
+ghost use Rattle.lines.specs.Lines.{linesOf, lineBytes, lineStart};
+ghost use Rattle.lines.specs.Records.{kindOf, kindIn};
+ghost use Rattle.lines.specs.Words.{lineLength, ReadAt};
+ghost use Rattle.lines.specs.Scan.{fieldAt, wordOf, digitsSaid, ScannedAt, FieldReadAt, FieldBounds, commaAt, stored, PlaceOf};
 
 // The seven kinds of lines, and a line whose first field is none of their letters.
 pub enum Kind {
@@ -31,4 +40,275 @@ pub struct LineRead {
     pub count: usize,
     pub words: [u64; WORDS],
     pub end: usize,
+}
+
+// What a field says: a number, where CAP stands for each above it; `-`; or something else.
+pub enum Said {
+    Number(u64),
+    Dash,
+    Other,
+}
+
+// A field that was read, and the place of the comma or LF behind it, or of the sheet's end.
+pub struct FieldRead {
+    pub said: Said,
+    pub end: usize,
+}
+
+// The bytes of a field taken for digits: their value, whether all are digits, and the field's end.
+struct Scanned {
+    value: u64,
+    all: bool,
+    end: usize,
+}
+
+// Where a line stands in the sheet, without its LF.
+pub struct Place {
+    pub start: usize,
+    pub length: usize,
+}
+
+// `0` to `9`.
+fn is_digit(byte: u8) -> bool
+    ensures { λ r. ⌜ r ≡ isDigit byte ⌝ }
+{
+    if byte < 48 { false } else { byte <= 57 }
+}
+
+fn wide(byte: u8) -> u64
+    ensures { λ r. ⌜ r ≡ byte ⌝ }
+{
+    byte as u64
+}
+
+// A number, or CAP for each above it.
+fn capped(n: u64) -> u64
+    ensures { λ r. ⌜ r ≡ min n 1000000000001 ⌝ }
+{
+    if n <= CAP { n } else { CAP }
+}
+
+// One pass over the bytes of the field that starts here.
+fn scan_field(s: &[u8], start: usize) -> Scanned
+    requires { ⌜ start ≤ length (now s) ⌝ }
+    ensures { λ r. ⌜ ScannedAt (now (s .entry)) start r ⌝ }
+{
+    let mut value: u64 = 0;
+    let mut all = true;
+    let mut end = start;
+    while end < s.len() {
+        let byte = s[end];
+        if is_digit(byte) {
+            value = capped(value * 10 + wide(byte - 48));
+        } else {
+            if byte == b',' {
+                return Scanned { value, all, end };
+            }
+            if byte == b'\n' {
+                return Scanned { value, all, end };
+            }
+            all = false;
+        }
+        end += 1;
+    }
+    Scanned { value, all, end }
+}
+
+fn digits_said(f: Scanned) -> Said
+    ensures { λ r. ⌜ r ≡ digitsSaid (f .all) (f .value) ⌝ }
+{
+    if f.all {
+        Said::Number(f.value)
+    } else {
+        Said::Other
+    }
+}
+
+// The field that starts here.
+pub fn read_field(s: &[u8], start: usize) -> FieldRead
+    requires { ⌜ start ≤ length (now s) ⌝ }
+    ensures { λ r. ⌜ FieldReadAt (now (s .entry)) start r ⌝ }
+    ensures bounded { λ r. ⌜ FieldBounds (now (s .entry)) start r ⌝ }
+{
+    let f = scan_field(s, start);
+    let end = f.end;
+    if end == start {
+        return FieldRead {
+            said: Said::Other,
+            end,
+        };
+    }
+    let first = s[start];
+    if end == start + 1 {
+        if first == b'-' {
+            return FieldRead {
+                said: Said::Dash,
+                end,
+            };
+        }
+        return FieldRead {
+            said: digits_said(f),
+            end,
+        };
+    }
+    if first == b'0' {
+        return FieldRead {
+            said: Said::Other,
+            end,
+        };
+    }
+    FieldRead {
+        said: digits_said(f),
+        end,
+    }
+}
+
+// A field's word.
+fn word_of(said: Said) -> u64
+    ensures { λ r. ⌜ r ≡ wordOf said ⌝ }
+{
+    match said {
+        Said::Number(n) => n,
+        Said::Dash => DASH,
+        Said::Other => OTHER,
+    }
+}
+
+// The kind whose letter this byte is.
+fn kind_of(letter: u8) -> Kind
+    ensures { λ r. ⌜ r ≡ kindOf letter ⌝ }
+{
+    match letter {
+        b'P' => Kind::Process,
+        b'S' => Kind::SourceStream,
+        b'H' => Kind::Heat,
+        b'W' => Kind::WasteGas,
+        b'E' => Kind::Power,
+        b'B' => Kind::BoughtPrecursor,
+        b'G' => Kind::OwnGood,
+        _ => Kind::Unknown,
+    }
+}
+
+// The kind of a line by its first field.
+fn kind_in(s: &[u8], start: usize, end: usize) -> Kind
+    requires { ⌜ (start ≤ end) × (end ≤ length (now s)) ⌝ }
+    ensures { λ r. ⌜ r ≡ kindIn (take (end - start) (drop start (now (s .entry)))) ⌝ }
+{
+    if end - start == 1 {
+        return kind_of(s[start]);
+    }
+    Kind::Unknown
+}
+
+// Whether a comma stands here: behind a field it means one more.
+fn comma_at(s: &[u8], place: usize) -> bool
+    ensures { λ r. ⌜ r ≡ commaAt (now (s .entry)) place ⌝ }
+{
+    if place < s.len() {
+        s[place] == b','
+    } else {
+        false
+    }
+}
+
+// A word is kept if it is one of the first eight.
+fn store(words: &mut [u64; WORDS], k: usize, word: u64)
+    ensures { λ r. ⌜ now (words .exit) ≡ stored (now (words .entry)) k word ⌝ }
+{
+    if k < WORDS {
+        words[k] = word;
+    }
+}
+
+// The line that starts here.
+pub fn read_line(s: &[u8], start: usize) -> LineRead
+    requires { ⌜ start ≤ length (now s) ⌝ }
+    ensures { λ r. ⌜ ReadAt (now (s .entry)) start r ⌝ }
+    ensures bounded { λ r. ⌜ (start ≤ r .end) × (r .end ≤ length (now (s .entry))) ⌝ }
+{
+    let first = read_field(s, start);
+    let mut end = first.end;
+    let kind = kind_in(s, start, end);
+    let mut words = [0u64; WORDS];
+    let mut count: usize = 0;
+    while comma_at(s, end) {
+        let field = read_field(s, end + 1);
+        let said = field.said;
+        store(&mut words, count, word_of(said));
+        count += 1;
+        end = field.end;
+    }
+    LineRead {
+        kind,
+        count,
+        words,
+        end,
+    }
+}
+
+// The place of the LF of the line that starts here, or of the sheet's end.
+fn line_end(s: &[u8], start: usize) -> usize
+    requires { ⌜ start ≤ length (now s) ⌝ }
+    ensures { λ r. ⌜ r ≡ start + lineLength (drop start (now (s .entry))) ⌝ }
+    ensures bounded { λ r. ⌜ (start ≤ r) × (r ≤ length (now (s .entry))) ⌝ }
+{
+    let mut end = start;
+    while end < s.len() {
+        if s[end] == b'\n' {
+            return end;
+        }
+        end += 1;
+    }
+    end
+}
+
+// Where line n starts: line 1 is the first.
+fn line_start(s: &[u8], line: usize) -> usize
+    ensures { λ r. ⌜ r ≡ lineStart (linesOf (now (s .entry))) line ⌝ }
+{
+    let mut start: usize = 0;
+    let mut left = line;
+    while 1 < left {
+        if s.len() <= start {
+            return start;
+        }
+        start = line_end(s, start) + 1;
+        left -= 1;
+    }
+    start
+}
+
+// Where a line stands: nowhere long for line 0, and at the sheet's end past the last line.
+pub fn line_place(s: &[u8], line: usize) -> Place
+    ensures { λ r. ⌜ PlaceOf (now (s .entry)) line r ⌝ }
+{
+    if line == 0 {
+        return Place {
+            start: 0,
+            length: 0,
+        };
+    }
+    let start = line_start(s, line);
+    if s.len() <= start {
+        return Place {
+            start: s.len(),
+            length: 0,
+        };
+    }
+    let end = line_end(s, start);
+    Place {
+        start,
+        length: end - start,
+    }
+}
+
+// The offending line, as that part of the lent sheet, without its LF: empty where the line is 0.
+pub fn offending_line(s: &[u8], line: usize) -> &[u8]
+    ensures { λ r. ⌜ now r ≡ lineBytes (linesOf (now (s .entry))) line ⌝ }
+{
+    let place = line_place(s, line);
+    let start = place.start;
+    let end = start + place.length;
+    &s[start..end]
 }

@@ -1,0 +1,14 @@
+use borrow.Author.Needs.{needs}
+use Rattle.lines.proofs.digits_said.Statement.{statement}
+use Rattle.lines.proofs.digits_said.Tie as tie
+use Rattle.lines.proofs.digits_said.Reads as reads
+use Rattle.lines.proofs.digits_said.Lts as lts
+
+returns : tie.Need-returns
+returns c = rw (c .if1 .taken)
+
+returns-2 : tie.Need-returns-2
+returns-2 c = search needs
+
+pub digits-said-spec : {M : Type 1} → statement M
+digits-said-spec = tie.close (tie.spec returns returns-2)

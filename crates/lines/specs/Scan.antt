@@ -1,0 +1,85 @@
+-- A field, a line and a line's place as the code finds them. Laws join them to Records and Lines; nothing here adds to document 01's meaning.
+use mathlib.Core.Path.{_≡_}
+use mathlib.Core.Bool.{Bool, true, false, cond, _&&_}
+use mathlib.Core.List.{List, [], _∷_}
+use Prim.Native.Nat.{ℕ, suc, _+_, min, _≤_}
+use lib.Dec.{eqb, ltb}
+use lib.ListN.{length, take, drop, getD, set}
+use Rattle.decimal.specs.Number.{allDigits, valueFrom}
+use Rattle.lines.specs.Lines.{LF, COMMA, linesOf, lineBytes, lineStart}
+use Rattle.lines.specs.Records.{Field, number, dash, other, fieldOf}
+use Rattle.lines.specs.Words.{CAP, DASH, OTHER}
+use Rattle.lines.specs.declared.Said.{Said}
+use Rattle.lines.specs.declared.Said.the-variants.{Number, Dash, Other}
+use Rattle.lines.specs.declared.FieldRead.{FieldRead}
+use Rattle.lines.specs.declared.Scanned.{Scanned}
+use Rattle.lines.specs.declared.Place.{Place}
+
+-- ---- a field
+
+-- how many bytes stand before the first comma or LF: all of them where there is none
+unfoldable pub fieldLength : List ℕ → ℕ
+fieldLength [] = 0
+fieldLength (byte ∷ bytes) = cond (eqb byte LF) 0 (cond (eqb byte COMMA) 0 (suc (fieldLength bytes)))
+
+-- the bytes of the field that starts at a place of the sheet
+abbrev pub fieldAt : (sheet : List ℕ) → (start : ℕ) → List ℕ
+fieldAt sheet start = take (fieldLength (drop start sheet)) (drop start sheet)
+
+-- what a field says, where CAP stands for each number above it
+abbrev pub saidOf : Field → Said
+saidOf (number n) = Number (min n CAP)
+saidOf dash = Dash
+saidOf other = Other
+
+-- what is said in one word
+abbrev pub wordOf : Said → ℕ
+wordOf (Number n) = n
+wordOf Dash = DASH
+wordOf Other = OTHER
+
+-- a number that is said is at most CAP
+abbrev pub Capped : Said → Type 0
+Capped (Number n) = n ≤ CAP
+Capped Dash = Unit {0}
+Capped Other = Unit {0}
+
+-- a number, where all bytes were digits
+abbrev pub digitsSaid : (all : Bool) → (value : ℕ) → Said
+digitsSaid all value = cond all (Number value) Other
+
+-- bytes as digits, after digits of the value n
+unfoldable pub digitsFrom : (all : Bool) → (n : ℕ) → List ℕ → Said
+digitsFrom all n bytes = digitsSaid (all && allDigits bytes) (min (valueFrom n bytes) CAP)
+
+-- the field that starts at a place of the sheet, its bytes taken for digits
+pub record ScannedAt (sheet : List ℕ) (start : ℕ) (f : Scanned) : Type 0 where
+  pub said : digitsSaid (f .all) (f .value) ≡ digitsFrom true 0 (fieldAt sheet start)
+  pub end : f .end ≡ start + fieldLength (drop start sheet)
+  pub most : f .end ≤ length sheet
+
+-- what is read at a place of the sheet is the field that starts there
+pub record FieldReadAt (sheet : List ℕ) (start : ℕ) (f : FieldRead) : Type 0 where
+  pub said : f .said ≡ saidOf (fieldOf (fieldAt sheet start))
+  pub end : f .end ≡ start + fieldLength (drop start sheet)
+
+pub record FieldBounds (sheet : List ℕ) (start : ℕ) (f : FieldRead) : Type 0 where
+  pub least : start ≤ f .end
+  pub most : f .end ≤ length sheet
+  pub capped : Capped (f .said)
+
+-- ---- a line
+
+-- whether a comma stands at a place of the sheet
+abbrev pub commaAt : (sheet : List ℕ) → (place : ℕ) → Bool
+commaAt sheet place = cond (ltb place (length sheet)) (eqb (getD sheet place 0) COMMA) false
+
+-- eight words with this one at k, where k is below eight
+abbrev pub stored : (words : List ℕ) → (k : ℕ) → (word : ℕ) → List ℕ
+stored words k word = cond (ltb k 8) (set words k word) words
+
+-- the place of line n; past the last line, the sheet's end
+pub record PlaceOf (sheet : List ℕ) (n : ℕ) (p : Place) : Type 0 where
+  pub start : p .start ≡ min (lineStart (linesOf sheet) n) (length sheet)
+  pub size : p .length ≡ length (lineBytes (linesOf sheet) n)
+  pub inside : p .start + p .length ≤ length sheet
