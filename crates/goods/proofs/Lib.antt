@@ -6,4 +6,3 @@ pub mod Pools
 pub mod Same
 mod Passing
 mod Settling
-mod Division

@@ -2,5 +2,4 @@
 pub mod Sums
 pub mod Goods
 pub mod Cases
-pub mod Division
 pub mod Settling

@@ -5,9 +5,8 @@ ghost use lib.ListN.{length, getD};
 ghost use Rattle.goods.specs.Settling.{PROCESSES, SIZE, figures, pairs, CanPassOn, PassedOn, Settleable, PoolsSettled};
 use quantity::Grams;
 use quantity::Kilos;
-use share::share;
+use quantity::shares::share;
 
-mod share;
 
 // A works has at most this many processes, numbered from 1.
 pub const PROCESSES: usize = 16;
