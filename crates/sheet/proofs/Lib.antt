@@ -3,3 +3,4 @@ pub mod Cases
 pub mod First
 pub mod Passed
 pub mod OneSheet
+pub mod Rows
