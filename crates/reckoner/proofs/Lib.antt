@@ -10,3 +10,4 @@ pub mod Sheet
 pub mod Bounds
 pub mod HeldLedger
 pub mod HeldGoods
+pub mod AnyOrder
