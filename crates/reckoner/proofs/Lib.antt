@@ -11,3 +11,4 @@ pub mod Bounds
 pub mod HeldLedger
 pub mod HeldGoods
 pub mod AnyOrder
+pub mod Judged

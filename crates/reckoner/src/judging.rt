@@ -5,6 +5,8 @@ ghost use Prim.Native.Nat.{_+_, _*_, _<_};
 ghost use lib.Dec.{eqb};
 ghost use lib.ListN.{getD};
 ghost use Rattle.goods.specs.Settling.{SIZE};
+ghost use Rattle.lines.specs.Records.{letter};
+ghost use Rattle.lines.specs.declared.Kind.the-variants.{OwnGood};
 ghost use Rattle.sheet.specs.Limits.{limits};
 ghost use Rattle.sheet.specs.Code.{refusalNumber, orderNumber, lineNumber};
 use goods::PAIRS;
@@ -28,6 +30,22 @@ pub struct Works {
     pub ledger: Ledger,
 }
 
+// Whether a line is a G line.
+pub fn is_good(kind: Kind) -> bool
+    ensures { λ r. ⌜ r ≡ eqb (letter kind) (letter OwnGood) ⌝ }
+{
+    match kind {
+        Kind::OwnGood => true,
+        Kind::Process => false,
+        Kind::SourceStream => false,
+        Kind::Heat => false,
+        Kind::WasteGas => false,
+        Kind::Power => false,
+        Kind::BoughtPrecursor => false,
+        Kind::Unknown => false,
+    }
+}
+
 // Rows 8 to 13 of a G line, whose processes have places.
 fn good_refusal(w: Works, kilos: &[u64; PAIRS], l: LineRead) -> Refusal
     requires { ⌜ (getD (l .words) 0 0 < SIZE) × (getD (l .words) 1 0 < SIZE) ⌝ }
@@ -39,7 +57,14 @@ fn good_refusal(w: Works, kilos: &[u64; PAIRS], l: LineRead) -> Refusal
     let output = w.outputs[from];
     let taken = w.taken[from];
     let pair = kilos[from * SIZE + to];
-    order_refusal(l, w.lines, w.count, Kilos(output), Kilos(taken), Kilos(pair))
+    order_refusal(
+        l,
+        w.lines,
+        w.count,
+        Kilos(output),
+        Kilos(taken),
+        Kilos(pair),
+    )
 }
 
 // Rows 2 to 13 of a line under the lines above it, in a sheet of `size` bytes.
@@ -51,8 +76,8 @@ pub fn line_refusal(w: Works, kilos: &[u64; PAIRS], l: LineRead, size: usize) ->
         return shape;
     }
     let kind = l.kind;
-    match kind {
-        Kind::OwnGood => good_refusal(w, kilos, l),
-        _ => order_refusal(l, w.lines, w.count, Kilos(0), Kilos(0), Kilos(0)),
+    if is_good(kind) {
+        return good_refusal(w, kilos, l);
     }
+    order_refusal(l, w.lines, w.count, Kilos(0), Kilos(0), Kilos(0))
 }
