@@ -2,7 +2,7 @@
 use mathlib.Core.Path.{_≡_, refl, sym, ap, ap₂, _∙_}
 use mathlib.Core.Bool.{Bool, true, false, cond}
 use mathlib.Core.List.{List, [], _∷_, map}
-use Prim.Native.Nat.{ℕ, suc, _+_, _-_, min, _≤_, _<_}
+use Prim.Native.Nat.{ℕ, suc, _+_, _-_, _≤_, _<_}
 use native.Mathlib.Nat.{lt-of-not-le}
 use native.Mathlib.Decide.{decLe}
 use native.Mathlib.Numerals.{add-one}
@@ -13,13 +13,11 @@ use lib.ListN.{length, take, drop, set, getD, replicate, length-take, length-dro
 use lib.Seq.{sets, set-out, drop-cons, drop-drop, getD-drop}
 use Rattle.lines.specs.Lines.{LF, COMMA, beforeField, fieldsOf}
 use Rattle.lines.specs.Records.{Field, number, dash, other, kindOf, kindIn, fieldOf, recordOf}
-use Rattle.lines.specs.Words.{CAP, DASH, OTHER, word, words, lineLength, lineAt, ReadAt}
+use Rattle.lines.specs.Words.{word, words, lineLength, lineAt, ReadAt}
 use Rattle.lines.specs.Scan.{fieldLength, fieldAt, saidOf, wordOf, commaAt, stored, FieldReadAt}
 use Rattle.lines.specs.declared.Kind.{Kind}
 use Rattle.lines.specs.declared.Kind.the-variants.{Unknown}
-use Rattle.lines.specs.declared.Said.{Said}
 use Rattle.lines.specs.declared.FieldRead.{FieldRead}
-use Rattle.lines.specs.declared.LineRead.{LineRead}
 
 -- ---- the first field of the bytes that are left
 

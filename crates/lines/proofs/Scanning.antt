@@ -12,9 +12,9 @@ use lib.Dec.{leb}
 use lib.ListN.{length, take, drop, getD, length-take, length-drop}
 use lib.Seq.{drop-cons, drop-length, getD-take, getD-drop}
 use Rattle.decimal.specs.Number.{isDigit, allDigits, isNumber, valueFrom, value}
-use Rattle.decimal.proofs.Bools.{never, and-both}
+use Rattle.decimal.proofs.Bools.{and-both}
 use Rattle.lines.specs.Lines.{LF, COMMA}
-use Rattle.lines.specs.Records.{Field, number, dash, other, isDash, fieldOf}
+use Rattle.lines.specs.Records.{Field, number, dash, other, fieldOf}
 use Rattle.lines.specs.Words.{CAP}
 use Rattle.lines.specs.Scan.{fieldLength, fieldAt, saidOf, Capped, digitsSaid, digitsFrom, ScannedAt, FieldReadAt, FieldBounds}
 use Rattle.lines.specs.declared.Said.{Said}
