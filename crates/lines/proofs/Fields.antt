@@ -9,7 +9,7 @@ use native.Mathlib.Numerals.{add-one}
 use native.Mathlib.Omega.{arith}
 use borrow.Author.Tests.{ne-eqb, eqb-true, lt-ltb, le-ltb, ltb-true}
 use lib.Dec.{eqb, ltb}
-use lib.ListN.{length, take, drop, set, getD, replicate, length-take, length-drop, length-set}
+use lib.ListN.{length, take, drop, set, getD, replicate, length-take, length-drop, length-set, length-map}
 use lib.Seq.{sets, set-out, drop-cons, drop-drop, getD-drop}
 use Rattle.lines.specs.Lines.{LF, COMMA, beforeField, fieldsOf}
 use Rattle.lines.specs.Records.{Field, number, dash, other, kindOf, kindIn, fieldOf, recordOf}
@@ -194,10 +194,6 @@ pub record FieldsRead (s : List ℕ) (first : ℕ) (held : List ℕ) (count end 
 
 pub none-read : (s : List ℕ) (first : ℕ) → FieldsRead s first (replicate 8 0) 0 first
 none-read s first = record { size = refl; words = refl; counted = omega arith; ended = refl }
-
-length-map : {A B : Type 0} (f : A → B) (l : List A) → length (map f l) ≡ length l
-length-map f [] = refl
-length-map f (x ∷ l) = ap suc (length-map f l)
 
 module _ (s : List ℕ) (first : ℕ) (held : List ℕ) (count end : ℕ) (r : FieldsRead s first held count end) where
   pub one-read : (f : FieldRead) → commaAt s end ≡ true → FieldReadAt s (end + 1) f
