@@ -1,8 +1,10 @@
 -- What the code judges: a line's kind, its count of fields, their words, and what is held of the lines above. Laws join it to Refusals and
 -- Verdict; nothing here adds to document 01's meaning.
+use mathlib.Core.Path.{_≡_}
+use mathlib.Core.Logic.{_⊎_}
 use mathlib.Core.Bool.{Bool, true, false, cond, _&&_, _||_, not}
 use mathlib.Core.List.{List, [], _∷_, map}
-use Prim.Native.Nat.{ℕ, suc, _+_}
+use Prim.Native.Nat.{ℕ, suc, _+_, _≤_}
 use lib.Dec.{eqb, ltb, leb}
 use lib.ListN.{length, getD}
 use Rattle.lines.specs.Records.{number, letter}
@@ -130,3 +132,17 @@ module _ (limits : Limits) where
   abbrev pub lineNumber : Kind → (count : ℕ) → (words : List ℕ) → (ended : Bool) → (above processes output taken pair : ℕ) → ℕ
   lineNumber kind count words ended above processes output taken pair =
       orElse (shapeNumber limits kind count words ended above) (orderNumber kind words above processes output taken pair)
+
+-- ---- the words of a line that passes rows 2 to 7: numbers of the ranges, or DASH where `-` may stand
+
+abbrev pub InRange : Rule → (word : ℕ) → Type 0
+InRange rule word = (rule .lowest ≤ word) × (word ≤ rule .highest)
+
+abbrev pub FitsBy : (dashAllowed : Bool) → Rule → (word : ℕ) → Type 0
+FitsBy true rule word = (word ≡ DASH) ⊎ InRange rule word
+FitsBy false rule word = InRange rule word
+
+-- the words of the fields from k on
+abbrev pub Fitting : (k : ℕ) → List Rule → (words : List ℕ) → Type 0
+Fitting k [] words = Unit {0}
+Fitting k (rule ∷ rs) words = FitsBy (rule .dashAllowed) rule (getD words k 0) × Fitting (suc k) rs words
