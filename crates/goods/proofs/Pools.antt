@@ -103,11 +103,10 @@ module _ (n : ℕ) (output : ℕ → ℕ) (kilos : ℕ → ℕ → ℕ) (own : �
         let z = none-back (suc k) h in
         omega arith
 
-  module _ (forward : (i j : ℕ) → j ≤ i → kilos i j ≡ 0) (within : (i : ℕ) → 1 ≤ i → i ≤ n → sumTo n (kilos i) ≤ output i) where
     -- WHAT IS LEFT IN ALL POOLS IS WHAT WENT INTO THEM
-    pub left-sum : sumTo n (leftOf n output kilos own) ≡ sumTo n own
+    pub left-sum-ahead : ((i : ℕ) → 1 ≤ i → i ≤ n → sumTo n (kilos i) ≤ output i) → sumTo n (leftOf n output kilos own) ≡ sumTo n own
     unfolding sumTo
-    left-sum = let c = passed-on (λ i j l u h. forward i j u) n (le-refl n) in let d = back n (le-refl n) in omega arith
+    left-sum-ahead within = let c = passed-on n (le-refl n) in let d = back n (le-refl n) in omega arith
       where
         back : (k : ℕ) → k ≤ n → sumTo k (leftOf n output kilos own) + sumTo k (λ i. givenTo (pool i) (output i) (kilos i) n) ≡ sumTo k pool
         back zero h = refl
@@ -118,3 +117,8 @@ module _ (n : ℕ) (output : ℕ → ℕ) (kilos : ℕ → ℕ → ℕ) (own : �
               left-is (suc k),
               given-within (pool (suc k)) (output (suc k)) (kilos (suc k)) n (within (suc k) (omega arith) h),
             )
+
+  -- the same where no pair at all goes back
+  pub left-sum : ((i j : ℕ) → j ≤ i → kilos i j ≡ 0) → ((i : ℕ) → 1 ≤ i → i ≤ n → sumTo n (kilos i) ≤ output i)
+      → sumTo n (leftOf n output kilos own) ≡ sumTo n own
+  left-sum forward = left-sum-ahead (λ i j l u h. forward i j u)

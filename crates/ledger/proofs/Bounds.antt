@@ -8,9 +8,10 @@ use native.Mathlib.Omega.{arith}
 use lib.IntN.{ℤ, pos, natAbs, _+ℤ_, _-ℤ_}
 use lib.ListN.{length, getD, set, replicate, length-set, length-replicate}
 use lib.Seq.{getD-set-same, getD-set-other, set-out}
+use Rattle.goods.specs.Settling.{SIZE}
 use Rattle.ledger.specs.declared.Entry.{Entry}
 use Rattle.ledger.specs.declared.Ledger.{Ledger}
-use Rattle.ledger.specs.Ledger.{SIZE, STEP, added, chargedAndCredited, booked, start, Small, Within, Sized}
+use Rattle.ledger.specs.Ledger.{STEP, added, chargedAndCredited, booked, start, Small, Within, Sized}
 use Rattle.ledger.proofs.Sizes.{size-plus, size-minus, size-moved}
 
 -- ---- every place of an array

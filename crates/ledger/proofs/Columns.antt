@@ -6,7 +6,7 @@ use native.Mathlib.Decide.{ℕ-discrete}
 use native.Mathlib.Omega.{arith}
 use lib.ListN.{set, replicate, length-set, length-replicate}
 use lib.Seq.{getD-set-same, getD-set-other}
-use Rattle.ledger.specs.Ledger.{SIZE}
+use Rattle.goods.specs.Settling.{SIZE}
 use Rattle.ledger.specs.Columns.{Column}
 use Rattle.ledger.proofs.Bounds.{each-same}
 

@@ -3,7 +3,7 @@ use mathlib.Core.Path.{_≡_}
 use mathlib.Core.List.{List}
 use Prim.Native.Nat.{ℕ, _≤_, _<_}
 use lib.ListN.{length, getD}
-use Rattle.ledger.specs.Ledger.{SIZE}
+use Rattle.goods.specs.Settling.{SIZE}
 
 -- the array has the figure of each process 1 .. count at its number, and 0 elsewhere
 pub record Column (count : ℕ) (figure : ℕ → ℕ) (a : List ℕ) : Type 0 where

@@ -4,12 +4,9 @@ use Prim.Native.Nat.{ℕ, _+_, _≤_, _<_}
 use lib.IntN.{ℤ, pos, natAbs, _+ℤ_, _-ℤ_}
 use mathlib.Core.Path.{_≡_}
 use lib.ListN.{length, getD, set, replicate}
+use Rattle.goods.specs.Settling.{SIZE}
 use Rattle.ledger.specs.declared.Entry.{Entry}
 use Rattle.ledger.specs.declared.Ledger.{Ledger}
-
--- places of an array: outside the works, and its processes
-abbrev pub SIZE : ℕ
-SIZE = 17
 
 -- the most grams that one line adds to the figures
 abbrev pub STEP : ℕ

@@ -4,12 +4,12 @@ ghost use lib.IntN.{pos, natAbs, _+ℤ_, _-ℤ_};
 ghost use Prim.Native.Nat.{ℕ, _+_, _^_, _≤_, _<_};
 ghost use lib.ListN.{getD};
 ghost use Rattle.goods.specs.Sums.{sumTo};
-ghost use Rattle.ledger.specs.Ledger.{SIZE, STEP, Room, Small, balanced, booked, start};
+ghost use Rattle.goods.specs.Settling.{SIZE};
+ghost use Rattle.ledger.specs.Ledger.{STEP, Room, Small, balanced, booked, start};
 ghost use Rattle.ledger.specs.Raising.{gramsAdded, raisedToZero};
 ghost use Rattle.ledger.specs.Columns.{Column};
+use goods::SIZE;
 use quantity::Grams;
-
-pub const SIZE: usize = 17;
 
 // What one line moves, in grams. Process 0 is outside the works.
 pub struct Entry {

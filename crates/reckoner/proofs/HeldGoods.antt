@@ -15,7 +15,8 @@ use Rattle.lines.specs.declared.Kind.the-variants.{Process, OwnGood}
 use Rattle.sheet.specs.Refusals.{sumOf, process, from, to, outputIn, takenIn}
 use Rattle.goods.specs.Sums.{onlyAt}
 use Rattle.goods.proofs.Sums.{at-same, at-other, at-none, at-le}
-use Rattle.ledger.specs.Ledger.{SIZE, added}
+use Rattle.goods.specs.Settling.{SIZE}
+use Rattle.ledger.specs.Ledger.{added}
 use Rattle.ledger.proofs.Bounds.{each-same}
 use Rattle.ledger.proofs.Places.{place-added}
 use Rattle.reckoner.specs.Reckoning.{kilosOf, processCount, kilosBetween}

@@ -8,7 +8,8 @@ use lib.ListN.{length, getD}
 use Rattle.lines.specs.Records.{Record}
 use Rattle.sheet.specs.Refusals.{sumOf}
 use Rattle.goods.specs.Sums.{onlyAt}
-use Rattle.ledger.specs.Ledger.{SIZE, STEP, Small, Within, Sized, booked, start}
+use Rattle.goods.specs.Settling.{SIZE}
+use Rattle.ledger.specs.Ledger.{STEP, Small, Within, Sized, booked, start}
 use Rattle.ledger.specs.declared.Ledger.{Ledger}
 use Rattle.ledger.proofs.Bounds.{within-start, within-booked, sized-start, sized-booked, each-same}
 use Rattle.ledger.proofs.Places.{balance-booked, indirect-booked, bought-direct-booked, bought-indirect-booked}
