@@ -12,3 +12,4 @@ pub mod HeldLedger
 pub mod HeldGoods
 pub mod AnyOrder
 pub mod Judged
+pub mod Noted
