@@ -71,7 +71,7 @@ method-fits dash = omega arith
 method-fits other = omega arith
 
 module _ (limits : Limits) (few : limits .processes < CAP) where
-  rules-fit : (k : Kind) (m : Field) → (length (rules limits k m) ≤ 8) × All Fits (rules limits k m)
+  pub rules-fit : (k : Kind) (m : Field) → (length (rules limits k m) ≤ 8) × All Fits (rules limits k m)
   unfolding rules
   rules-fit Process m = omega arith
   rules-fit SourceStream m = let f = method-fits m in (omega arith, (few, (omega arith, f .1)))

@@ -13,3 +13,4 @@ pub mod HeldGoods
 pub mod AnyOrder
 pub mod Judged
 pub mod Noted
+pub mod Standing

@@ -3,7 +3,8 @@ ghost use mathlib.Core.Path.{_≡_};
 ghost use Prim.Native.Nat.{_+_, _*_, _≤_, _<_};
 ghost use lib.ListN.{getD};
 ghost use Rattle.goods.specs.Settling.{SIZE};
-ghost use Rattle.ledger.specs.Ledger.{Room};
+ghost use Rattle.ledger.specs.Ledger.{Room, Small};
+ghost use Rattle.entries.specs.Entries.{entry};
 ghost use Rattle.sheet.specs.Limits.{limits};
 ghost use Rattle.entries.specs.Read.{recordRead, Shaped};
 ghost use Rattle.reckoner.specs.Works.{lineBooked, outputNoted, goodNoted, pairNoted, worksAfter, kilosAfter, Roomy};
@@ -20,7 +21,8 @@ fn with_entry(w: Works, l: LineRead) -> Works
     requires { ⌜ Shaped limits (recordRead l) ⌝ }
     requires { ⌜ l .count ≤ 8 ⌝ }
     requires { ⌜ (w .lines ≤ 4096) × Room (w .ledger) ⌝ }
-    ensures { λ r. ⌜ r ≡ lineBooked w l ⌝ }
+    ensures works { λ r. ⌜ r ≡ lineBooked w l ⌝ }
+    ensures small { λ r. ⌜ Small (entry (recordRead l)) ⌝ }
 {
     let mut next = w;
     let held = next.ledger;
@@ -68,6 +70,7 @@ pub fn with_line(w: Works, kilos: &mut [u64; PAIRS], l: LineRead) -> Works
     requires { ⌜ Roomy w (now kilos) ⌝ }
     ensures works { λ r. ⌜ r ≡ worksAfter w l ⌝ }
     ensures pairs { λ r. ⌜ now (kilos .exit) ≡ kilosAfter (now (kilos .entry)) l ⌝ }
+    ensures small { λ r. ⌜ Small (entry (recordRead l)) ⌝ }
 {
     let next = with_entry(w, l);
     let kind = l.kind;

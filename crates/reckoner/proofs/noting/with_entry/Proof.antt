@@ -16,7 +16,9 @@ add-next : tie.Need-add-next
 add-next c = search needs
 
 returns : tie.Need-returns
-returns c = rw (c .before .book .ensures, c .before .before .weigh .ensures .0)
+returns c =
+    let weighed = c .before .before .weigh .ensures in
+    (rw (c .before .book .ensures, weighed .0), rw (weighed .0) at (weighed .1))
 
 pub with-entry-spec : {M : Type 1} → statement M
 with-entry-spec = tie.close (tie.spec weigh-requires book-requires add-next returns)

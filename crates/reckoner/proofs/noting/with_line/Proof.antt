@@ -19,7 +19,7 @@ enum-told c = search needs
 with-output-requires : tie.Need-with-output-requires
 with-output-requires c κs =
     let k = c .before .before .before in
-    rw (c .before .before .with-entry .ensures) (output-asked (k .args .w) _ (k .args .l) (k .pre .0) (search needs) (k .pre .1 .0) (k .pre .1 .1) (c .enum-told .given .1))
+    rw (c .before .before .with-entry .ensures .0) (output-asked (k .args .w) _ (k .args .l) (k .pre .0) (search needs) (k .pre .1 .0) (k .pre .1 .1) (c .enum-told .given .1))
 
 enum-told-2 : tie.Need-enum-told-2
 enum-told-2 c = search needs
@@ -27,7 +27,7 @@ enum-told-2 c = search needs
 with-good-requires : tie.Need-with-good-requires
 with-good-requires c κs =
     let k = c .before .before .before .before in
-    rw (c .before .before .before .with-entry .ensures) (good-asked (k .args .w) _ (k .args .l) (k .pre .0) (search needs) (k .pre .1 .0) (k .pre .1 .1) (c .before .enum-told2 .given .1))
+    rw (c .before .before .before .with-entry .ensures .0) (good-asked (k .args .w) _ (k .args .l) (k .pre .0) (search needs) (k .pre .1 .0) (k .pre .1 .1) (c .before .enum-told2 .given .1))
 
 enum-told-3 : tie.Need-enum-told-3
 enum-told-3 c = search needs
@@ -51,55 +51,55 @@ returns : tie.Need-returns
 returns c =
     let k = c .before .before .before .before in
     let a = after-process (k .args .w) (now (k .args .kilos)) (k .args .l) (c .before .enum-told .given .1) in
-    (c .with-output .ensures ∙ rw (c .before .before .before .with-entry .ensures) (sym (a .0)), sym (a .1))
+    (c .with-output .ensures ∙ rw (c .before .before .before .with-entry .ensures .0) (sym (a .0)), (sym (a .1), c .before .before .before .with-entry .ensures .1))
 
 returns-2 : tie.Need-returns-2
 returns-2 c =
     let k = c .before .before .before .before .before in
     let a = after-good (k .args .w) (now (k .args .kilos)) (k .args .l) (c .before .before .enum-told2 .given .1) in
-    (c .with-good .ensures .0 ∙ rw (c .before .before .before .before .with-entry .ensures) (sym (a .0)), c .with-good .ensures .1 ∙ sym (a .1))
+    (c .with-good .ensures .0 ∙ rw (c .before .before .before .before .with-entry .ensures .0) (sym (a .0)), (c .with-good .ensures .1 ∙ sym (a .1), c .before .before .before .before .with-entry .ensures .1))
 
 returns-3 : tie.Need-returns-3
 returns-3 c =
     let k = c .before .before .before in
     let e = c .enum-told3 .given .1 in
     let a = after-other (k .args .w) (now (k .args .kilos)) (k .args .l) (rw e) (rw e) in
-    (c .before .before .with-entry .ensures ∙ sym (a .0), sym (a .1))
+    (c .before .before .with-entry .ensures .0 ∙ sym (a .0), (sym (a .1), c .before .before .with-entry .ensures .1))
 
 returns-4 : tie.Need-returns-4
 returns-4 c =
     let k = c .before .before .before in
     let e = c .enum-told4 .given .1 in
     let a = after-other (k .args .w) (now (k .args .kilos)) (k .args .l) (rw e) (rw e) in
-    (c .before .before .with-entry .ensures ∙ sym (a .0), sym (a .1))
+    (c .before .before .with-entry .ensures .0 ∙ sym (a .0), (sym (a .1), c .before .before .with-entry .ensures .1))
 
 returns-5 : tie.Need-returns-5
 returns-5 c =
     let k = c .before .before .before in
     let e = c .enum-told5 .given .1 in
     let a = after-other (k .args .w) (now (k .args .kilos)) (k .args .l) (rw e) (rw e) in
-    (c .before .before .with-entry .ensures ∙ sym (a .0), sym (a .1))
+    (c .before .before .with-entry .ensures .0 ∙ sym (a .0), (sym (a .1), c .before .before .with-entry .ensures .1))
 
 returns-6 : tie.Need-returns-6
 returns-6 c =
     let k = c .before .before .before in
     let e = c .enum-told6 .given .1 in
     let a = after-other (k .args .w) (now (k .args .kilos)) (k .args .l) (rw e) (rw e) in
-    (c .before .before .with-entry .ensures ∙ sym (a .0), sym (a .1))
+    (c .before .before .with-entry .ensures .0 ∙ sym (a .0), (sym (a .1), c .before .before .with-entry .ensures .1))
 
 returns-7 : tie.Need-returns-7
 returns-7 c =
     let k = c .before .before .before in
     let e = c .enum-told7 .given .1 in
     let a = after-other (k .args .w) (now (k .args .kilos)) (k .args .l) (rw e) (rw e) in
-    (c .before .before .with-entry .ensures ∙ sym (a .0), sym (a .1))
+    (c .before .before .with-entry .ensures .0 ∙ sym (a .0), (sym (a .1), c .before .before .with-entry .ensures .1))
 
 returns-8 : tie.Need-returns-8
 returns-8 c =
     let k = c .before .before .before in
     let e = c .enum-told8 .given .1 in
     let a = after-other (k .args .w) (now (k .args .kilos)) (k .args .l) (rw e) (rw e) in
-    (c .before .before .with-entry .ensures ∙ sym (a .0), sym (a .1))
+    (c .before .before .with-entry .ensures .0 ∙ sym (a .0), (sym (a .1), c .before .before .with-entry .ensures .1))
 
 pub with-line-spec : {M : Type 1} → statement M
 with-line-spec =
