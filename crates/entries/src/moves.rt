@@ -71,20 +71,14 @@ pub fn heat_entry(from: usize, to: usize, weight: Grams) -> Entry
 {
     let entering = outside(from, weight);
     let leaving = outside(to, weight);
-    Entry {
-        charged: to,
-        charge: weight,
-        credited: from,
-        credit: weight,
-        user: 0,
-        power: Grams(0),
-        buyer: 0,
-        direct: Grams(0),
-        indirect: Grams(0),
-        entering: entering,
-        leaving: leaving,
-        lost: Grams(0),
-    }
+    let mut heat = nothing();
+    heat.charged = to;
+    heat.charge = weight;
+    heat.credited = from;
+    heat.credit = weight;
+    heat.entering = entering;
+    heat.leaving = leaving;
+    heat
 }
 
 // Waste gas: its receiver is charged, and its sender credited with 667 thousandths of the charge.
@@ -99,20 +93,15 @@ pub fn gas_entry(from: usize, to: usize, energy: Megajoules) -> Entry
     let entering = outside(from, charge);
     let leaving = outside(to, credit);
     let lost = between(from, to, charge, credit);
-    Entry {
-        charged: to,
-        charge: charge,
-        credited: from,
-        credit: credit,
-        user: 0,
-        power: Grams(0),
-        buyer: 0,
-        direct: Grams(0),
-        indirect: Grams(0),
-        entering: entering,
-        leaving: leaving,
-        lost: lost,
-    }
+    let mut gas = nothing();
+    gas.charged = to;
+    gas.charge = charge;
+    gas.credited = from;
+    gas.credit = credit;
+    gas.entering = entering;
+    gas.leaving = leaving;
+    gas.lost = lost;
+    gas
 }
 
 // Power: its maker is credited, and it is its user's indirect attribution.
@@ -124,20 +113,14 @@ pub fn power_entry(from: usize, to: usize, weight: Grams) -> Entry
 {
     let entering = outside(from, weight);
     let leaving = outside(to, weight);
-    Entry {
-        charged: 0,
-        charge: Grams(0),
-        credited: from,
-        credit: weight,
-        user: to,
-        power: weight,
-        buyer: 0,
-        direct: Grams(0),
-        indirect: Grams(0),
-        entering: entering,
-        leaving: leaving,
-        lost: Grams(0),
-    }
+    let mut power = nothing();
+    power.credited = from;
+    power.credit = weight;
+    power.user = to;
+    power.power = weight;
+    power.entering = entering;
+    power.leaving = leaving;
+    power
 }
 
 // A bought precursor: both figures enter the works.
@@ -147,20 +130,13 @@ pub fn bought_entry(buyer: usize, direct: Grams, indirect: Grams) -> Entry
     ensures { λ r. ⌜ r ≡ bought buyer (direct .0) (indirect .0) ⌝ }
     ensures small { λ r. ⌜ Small r ⌝ }
 {
-    Entry {
-        charged: 0,
-        charge: Grams(0),
-        credited: 0,
-        credit: Grams(0),
-        user: 0,
-        power: Grams(0),
-        buyer: buyer,
-        direct: direct,
-        indirect: indirect,
-        entering: Grams(direct.0 + indirect.0),
-        leaving: Grams(0),
-        lost: Grams(0),
-    }
+    let both = Grams(direct.0 + indirect.0);
+    let mut bought = nothing();
+    bought.buyer = buyer;
+    bought.direct = direct;
+    bought.indirect = indirect;
+    bought.entering = both;
+    bought
 }
 
 // A source stream: a process is charged with what is counted plus, and credited with what is counted minus.
@@ -173,18 +149,12 @@ pub fn stream_entry(process: usize, grams: SignedGrams) -> Entry
     let parts = ledger::raise(grams.0);
     let plus = parts.direct;
     let minus = parts.raised;
-    Entry {
-        charged: process,
-        charge: plus,
-        credited: process,
-        credit: minus,
-        user: 0,
-        power: Grams(0),
-        buyer: 0,
-        direct: Grams(0),
-        indirect: Grams(0),
-        entering: plus,
-        leaving: minus,
-        lost: Grams(0),
-    }
+    let mut stream = nothing();
+    stream.charged = process;
+    stream.charge = plus;
+    stream.credited = process;
+    stream.credit = minus;
+    stream.entering = plus;
+    stream.leaving = minus;
+    stream
 }

@@ -22,11 +22,16 @@ between-requires c κs =
     let k = c .before .before .before in
     omega (arith, k .gas-charge .ensures .0, c .before .before .gas-credit .ensures .0, credit-below-charge (k .before .args .energy .0) (k .before .pre .1 .0))
 
+nothing-requires : tie.Need-nothing-requires
+nothing-requires c κs = search needs
+
 returns : tie.Need-returns
 returns c =
-    let k = c .before .before .before .before in (
-      gas-amounts (k .before .args .from) (k .before .args .to) (k .gas-charge .ensures .0) (c .before .before .before .gas-credit .ensures .0)
-          (c .before .before .outside .ensures .0) (c .before .outside2 .ensures .0) (c .between .ensures .0),
+    let k = c .before .before .before .before .before in
+    let s = k .before .args in
+    rw (c .nothing .ensures .0) (
+      gas-amounts (s .from) (s .to) (k .gas-charge .ensures .0) (c .before .before .before .before .gas-credit .ensures .0)
+          (c .before .before .before .outside .ensures .0) (c .before .before .outside2 .ensures .0) (c .before .between .ensures .0),
       search needs,
     )
 
@@ -39,4 +44,5 @@ gas-entry-spec =
     outside-requires
     outside-requires-2
     between-requires
+    nothing-requires
     returns)

@@ -11,10 +11,16 @@ outside-requires c κs = search needs
 outside-requires-2 : tie.Need-outside-requires-2
 outside-requires-2 c κs = search needs
 
+nothing-requires : tie.Need-nothing-requires
+nothing-requires c κs = search needs
+
 returns : tie.Need-returns
 returns c =
-    let s = c .before .before .args in
-    (ap₂ (λ (entering leaving : ℕ). moved (s .to) (s .weight .0) (s .from) (s .weight .0) 0 0 entering leaving 0) (c .before .outside .ensures .0) (c .outside2 .ensures .0), search needs)
+    let s = c .before .before .before .args in
+    rw (c .nothing .ensures .0) (
+      ap₂ (λ (entering leaving : ℕ). moved (s .to) (s .weight .0) (s .from) (s .weight .0) 0 0 entering leaving 0) (c .before .before .outside .ensures .0) (c .before .outside2 .ensures .0),
+      search needs,
+    )
 
 pub heat-entry-spec : {M : Type 1} → statement M
-heat-entry-spec = tie.close (tie.spec outside-requires outside-requires-2 returns)
+heat-entry-spec = tie.close (tie.spec outside-requires outside-requires-2 nothing-requires returns)

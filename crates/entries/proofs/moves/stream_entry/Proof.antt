@@ -17,15 +17,21 @@ same c = kept (c .args .grams .0) (omega (arith, c .pre .1))
 raise-requires : tie.Need-raise-requires
 raise-requires c κs = simp (same (c .before)) (omega (arith, c .before .pre .1))
 
+nothing-requires : tie.Need-nothing-requires
+nothing-requires c κs = search needs
+
 returns : tie.Need-returns
 returns c =
-    let k = c .before .before .before .before in
-    let z = k .args .grams .0 in
-    let e : (c .before .before .raise .result .direct .0 ≡ raisedToZero z) × (c .before .before .raise .result .raised .0 ≡ gramsAdded z) =
-    simp (same k) at (c .before .before .raise .ensures) in (
-      ap₂ (λ (plus minus : ℕ). moved (k .args .process) plus (k .args .process) minus 0 0 plus minus 0) (e .0) (e .1),
-      let a = raised-small z in let b = added-small z in search needs,
+    let k = c .before .before .before in
+    let s = k .before .before in
+    let z = s .args .grams .0 in
+    let e : (k .raise .result .direct .0 ≡ raisedToZero z) × (k .raise .result .raised .0 ≡ gramsAdded z) = simp (same s) at (k .raise .ensures) in
+    let plus = raised-small z in
+    let minus = added-small z in
+    rw (c .nothing .ensures .0) (
+      ap₂ (λ (plus minus : ℕ). moved (s .args .process) plus (s .args .process) minus 0 0 plus minus 0) (e .0) (e .1),
+      search needs,
     )
 
 pub stream-entry-spec : {M : Type 1} → statement M
-stream-entry-spec = tie.close (tie.spec raise-requires returns)
+stream-entry-spec = tie.close (tie.spec raise-requires nothing-requires returns)

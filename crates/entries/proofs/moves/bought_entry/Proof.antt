@@ -1,0 +1,16 @@
+use mathlib.Core.Path.{refl}
+use borrow.Author.Needs.{needs}
+use Rattle.entries.proofs.moves.bought_entry.Statement.{statement}
+use Rattle.entries.proofs.moves.bought_entry.Tie as tie
+
+add-t6 : tie.Need-add-t6
+add-t6 c = search needs
+
+nothing-requires : tie.Need-nothing-requires
+nothing-requires c κs = search needs
+
+returns : tie.Need-returns
+returns c = rw (c .nothing .ensures .0) (refl, search needs)
+
+pub bought-entry-spec : {M : Type 1} → statement M
+bought-entry-spec = tie.close (tie.spec add-t6 nothing-requires returns)
