@@ -14,3 +14,5 @@ pub mod AnyOrder
 pub mod Judged
 pub mod Noted
 pub mod Standing
+pub mod AllLines
+pub mod Gathering

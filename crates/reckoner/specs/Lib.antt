@@ -4,4 +4,5 @@ pub mod Attribution
 pub mod Reckoning
 pub mod Verdict
 pub mod Works
+pub mod Gathered
 pub mod Cases

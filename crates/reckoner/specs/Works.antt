@@ -4,12 +4,12 @@ use mathlib.Core.Bool.{cond}
 use mathlib.Core.List.{List}
 use Prim.Native.Nat.{ℕ, _+_, _*_, _≤_, _<_}
 use lib.Dec.{eqb}
-use lib.ListN.{length, getD}
+use lib.ListN.{getD, replicate}
 use Rattle.lines.specs.Records.{letter}
 use Rattle.lines.specs.declared.Kind.the-variants.{Process, OwnGood}
 use Rattle.lines.specs.declared.LineRead.{LineRead}
 use Rattle.goods.specs.Settling.{SIZE}
-use Rattle.ledger.specs.Ledger.{Room, added, booked}
+use Rattle.ledger.specs.Ledger.{Room, added, booked, start}
 use Rattle.ledger.specs.declared.Ledger.{Ledger}
 use Rattle.entries.specs.Entries.{entry}
 use Rattle.entries.specs.Read.{recordRead}
@@ -64,3 +64,7 @@ pub record Roomy (w : Works) (kilos : List ℕ) : Type 0 where
   pub taken : (i : ℕ) → getD (w .taken) i 0 ≤ 40960000000000
   pub pairs : (i : ℕ) → getD kilos i 0 ≤ 40960000000000
   pub ledger : Room (w .ledger)
+
+-- above the first line
+abbrev pub worksAtStart : Works
+worksAtStart = record { lines = 0; count = 0; outputs = replicate SIZE 0; taken = replicate SIZE 0; ledger = start }

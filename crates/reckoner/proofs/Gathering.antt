@@ -1,0 +1,56 @@
+-- What is held once all lines are read: document 01's figures over the sheet's records. Assumes nothing.
+use mathlib.Core.Path.{_≡_, refl, sym, ap, _∙_}
+use mathlib.Core.List.{List, [], map}
+use Prim.Native.Nat.{ℕ, _+_, _*_, _≤_, _<_}
+use native.Mathlib.Omega.{arith}
+use lib.ListN.{length}
+use Rattle.lines.specs.Records.{Record, recordsOf}
+use Rattle.lines.proofs.NextLine.{lines-done}
+use Rattle.ledger.proofs.Bounds.{within-more}
+use Rattle.sheet.specs.Refusals.{sumOf}
+use Rattle.reckoner.specs.Attribution.{indirect}
+use Rattle.reckoner.specs.Reckoning.{processCount, output}
+use Rattle.reckoner.specs.Gathered.{Gathered}
+use Rattle.reckoner.specs.declared.judging.Works.{Works}
+use Rattle.reckoner.proofs.Entries.{balance-is, entered-is, figures}
+use Rattle.reckoner.proofs.Bounds.{into-pools-le, raised-le}
+use Rattle.reckoner.proofs.HeldLedger.{HeldLedger}
+use Rattle.reckoner.proofs.HeldGoods.{HeldGoods}
+use Rattle.reckoner.proofs.AnyOrder.{SameSums, same-length, ledger-same, goods-same}
+use Rattle.reckoner.proofs.AllLines.{Reading}
+
+module _ (sheet : List ℕ) (at : ℕ) (w : Works) (kilos : List ℕ) (rd : Reading sheet at w kilos) (done : length sheet ≤ at) where
+  abbrev rs : List Record
+  rs = recordsOf sheet
+
+  same : SameSums (rd .above) (recordsOf sheet)
+  unfolding sumOf
+  same f = let s = rw (lines-done sheet at done) at (rd .sums f) in omega arith
+
+  few : length (recordsOf sheet) ≤ 4096
+  few = omega (arith, same-length (rd .above) (recordsOf sheet) same, rd .standing .few)
+
+  ledger : HeldLedger (recordsOf sheet) (w .ledger)
+  ledger = ledger-same (rd .above) (recordsOf sheet) same (w .ledger) (rd .standing .ledger)
+
+  goods : HeldGoods (recordsOf sheet) (w .count) (w .outputs) (w .taken) kilos
+  goods = goods-same (rd .above) (recordsOf sheet) same (w .count) (w .outputs) (w .taken) kilos (rd .standing .goods)
+
+  pub gathered : Gathered (recordsOf sheet) w kilos
+  unfolding output indirect
+  gathered = record {
+    count = goods .counted;
+    few = rd .standing .held .most;
+    output-at = goods .output-at;
+    kilos-at = goods .kilos-at;
+    balance-at = λ i. ledger .balances i ∙ sym (balance-is rs i);
+    indirect-at = λ i. ledger .indirect i ∙ sym (figures i rs .used);
+    bought-direct-at = λ i. ledger .bought-direct i ∙ sym (figures i rs .direct);
+    bought-indirect-at = λ i. ledger .bought-indirect i ∙ sym (figures i rs .indirect);
+    entered-is = ledger .entered ∙ sym (entered-is rs);
+    uncredited-is = ledger .uncredited ∙ sym (figures 0 rs .lost);
+    outputs-small = λ i. omega (arith, goods .output-at i, goods .outputs-small i, few);
+    room = within-more (omega (arith, few)) (ledger .within);
+    into = omega (arith, into-pools-le (processCount rs) rs, ledger .into, few);
+    raised = omega (arith, raised-le rs, ledger .out, few);
+  }

@@ -1,0 +1,44 @@
+-- What reading all lines of an accepted sheet leaves: document 01's figures, process by process.
+use mathlib.Core.Path.{_≡_}
+use mathlib.Core.List.{List, []}
+use Prim.Native.Nat.{ℕ, _+_, _*_, _^_, _≤_, _<_}
+use lib.IntN.{pos}
+use lib.ListN.{length, getD, replicate}
+use Rattle.lines.specs.Lines.{linesOf}
+use Rattle.lines.specs.Records.{Record, recordsOf}
+use Rattle.goods.specs.Settling.{SIZE, PAIRS}
+use Rattle.goods.specs.Sums.{sumTo}
+use Rattle.ledger.specs.Ledger.{Room}
+use Rattle.sheet.specs.Limits.{limits}
+use Rattle.sheet.specs.Verdict.{firstOf, linesChecks, numberOf, lineOf}
+use Rattle.sheet.specs.Code.{refusalNumber}
+use Rattle.reckoner.specs.Attribution.{balance, direct, indirect, boughtDirect, boughtIndirect}
+use Rattle.reckoner.specs.Reckoning.{processCount, output, kilosBetween, entered, totalRaised, uncredited}
+use Rattle.reckoner.specs.declared.judging.Works.{Works}
+use Rattle.reckoner.specs.declared.reading.Read.{Read}
+
+pub record Gathered (rs : List Record) (w : Works) (kilos : List ℕ) : Type 0 where
+  pub count : w .count ≡ processCount rs
+  pub few : w .count ≤ limits .processes
+  pub output-at : (i : ℕ) → getD (w .outputs) i 0 ≡ output rs i
+  pub kilos-at : (i j : ℕ) → j < SIZE → getD kilos (i * SIZE + j) 0 ≡ kilosBetween rs i j
+  pub balance-at : (i : ℕ) → getD (w .ledger .balances) i (pos 0) ≡ balance rs i
+  pub indirect-at : (i : ℕ) → getD (w .ledger .indirect) i 0 ≡ indirect rs i
+  pub bought-direct-at : (i : ℕ) → getD (w .ledger .«bought_direct») i 0 ≡ boughtDirect rs i
+  pub bought-indirect-at : (i : ℕ) → getD (w .ledger .«bought_indirect») i 0 ≡ boughtIndirect rs i
+  pub entered-is : w .ledger .entered ≡ entered rs
+  pub uncredited-is : w .ledger .uncredited ≡ uncredited rs
+  -- the bounds that keep every sum inside 63 bits
+  pub outputs-small : (i : ℕ) → output rs i ≤ 2 ^ 61
+  pub room : Room (w .ledger)
+  pub into : sumTo (processCount rs) (λ k. direct rs k + boughtDirect rs k) + sumTo (processCount rs) (λ k. indirect rs k + boughtIndirect rs k) < 2 ^ 63
+  pub raised : totalRaised rs < 2 ^ 63
+
+-- rows 2 to 13 over all lines, and what is gathered where none applies
+pub record ReadOf (sheet kilos : List ℕ) (r : Read) : Type 0 where
+  pub number : refusalNumber (r .refusal) ≡ numberOf (firstOf (linesChecks limits [] (linesOf sheet)))
+  pub line : r .line ≡ lineOf (firstOf (linesChecks limits [] (linesOf sheet)))
+  pub gathered : refusalNumber (r .refusal) ≡ 0 → Gathered (recordsOf sheet) (r .works) kilos
+
+abbrev pub NoKilos : List ℕ → Type 0
+NoKilos kilos = kilos ≡ replicate PAIRS 0
