@@ -7,7 +7,6 @@ use quantity::Grams;
 use quantity::Kilos;
 use quantity::shares::share;
 
-
 // A works has at most this many processes, numbered from 1.
 pub const PROCESSES: usize = 16;
 
