@@ -3,3 +3,5 @@ pub mod ReadBack
 pub mod InRange
 pub mod KindWords
 pub mod StreamWords
+pub mod KindEntries
+pub mod Amounts

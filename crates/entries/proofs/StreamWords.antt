@@ -17,7 +17,7 @@ use Rattle.quantity.proofs.Tables.{Lists, largest, at-found, net-calorific-valu
 use Rattle.quantity.specs.Ranges.{StreamRange}
 use Rattle.sheet.specs.Limits.{Limits}
 use Rattle.sheet.specs.Kinds.{Rule, _to_, methodRules, rules, rulesOf, orDash, exactly, kilos, share, processNumber}
-use Rattle.entries.specs.Read.{fieldRead, recordRead, Shaped}
+use Rattle.entries.specs.Read.{fieldRead, recordRead, Shaped, orStandardWord}
 use Rattle.entries.specs.Weighed.{orStandard}
 use Rattle.entries.proofs.InRange.{noRule, InRange, count-is, field-read, word-read, number-read}
 use Rattle.entries.proofs.KindWords.{Number, rules-of, by-rule}
@@ -39,10 +39,6 @@ factor-small = value-small emission-factors 400000 (omega arith)
 carbonate-small : (code : ℕ) → carbonateOf code ≤ 4000000
 unfolding carbonates
 carbonate-small = value-small carbonate-factors 4000000 (omega arith)
-
--- a word, or the standard value where it is `-`
-abbrev pub orStandardWord : (word standard : ℕ) → ℕ
-orStandardWord word standard = cond (eqb word DASH) standard word
 
 module _ (limits : Limits) (l : LineRead) (shaped : Shaped limits (recordRead l)) (sized : length (l .words) ≡ 8) (few : l .count ≤ 8)
     (stream : l .kind ≡ SourceStream) where

@@ -26,3 +26,7 @@ pub record Shaped (limits : Limits) (r : Record) : Type 0 where
   pub known : unknownKind limits r ≡ false
   pub counted : wrongFieldCount limits r ≡ false
   pub fields : firstOf (fieldChecks limits 0 (rulesOf limits r) (r .said)) ≡ accepted
+
+-- a word, or the standard value where it is `-`
+abbrev pub orStandardWord : (word standard : ℕ) → ℕ
+orStandardWord word standard = cond (eqb word DASH) standard word

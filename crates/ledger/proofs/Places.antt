@@ -3,7 +3,7 @@ use mathlib.Core.Path.{_≡_, sym, ap, _∙_}
 use mathlib.Core.List.{List}
 use Prim.Native.Nat.{ℕ, _+_, _<_}
 use native.Mathlib.Decide.{ℕ-discrete}
-use native.Mathlib.Omega.{arith}
+use native.Mathlib.Nat.{add-zero}
 use lib.IntN.{ℤ, pos, _+ℤ_, _-ℤ_, +ℤ-idr}
 use lib.ListN.{length, getD, set, length-set}
 use lib.Seq.{getD-set-same, getD-set-other}
@@ -13,28 +13,18 @@ use Rattle.ledger.specs.declared.Entry.{Entry}
 use Rattle.ledger.specs.declared.Ledger.{Ledger}
 use Rattle.ledger.specs.Ledger.{added, chargedAndCredited, booked, Small, Sized}
 
+-- one place changed by an amount, where no amount changes nothing
+place-changed : {A : Type 0} (change : A → ℕ → A) (d : A) → ((x : A) → change x 0 ≡ x)
+    → (l : List A) (p amount i : ℕ) → p < length l
+    → getD (set l p (change (getD l p d) amount)) i d ≡ change (getD l i d) (onlyAt i p amount)
+place-changed change d none l p amount i h =
+    elim (ℕ-discrete i p) [
+      | yes e ↦ rw (e, getD-set-same l p (change (getD l p d) amount) d h, at-same)
+      | no n ↦ rw (getD-set-other l p i (change (getD l p d) amount) d n, at-other i p amount n) (sym (none (getD l i d)))
+    ]
+
 pub place-added : (l : List ℕ) (p amount i : ℕ) → p < length l → getD (added l p amount) i 0 ≡ getD l i 0 + onlyAt i p amount
-place-added l p amount i h =
-    elim (ℕ-discrete i p) [
-      | yes e ↦ rw (e, getD-set-same l p (getD l p 0 + amount) 0 h, at-same)
-      | no n ↦ rw (getD-set-other l p i (getD l p 0 + amount) 0 n) (omega (arith, at-other i p amount n))
-    ]
-
-place-charged : (b : List ℤ) (p amount i : ℕ) → p < length b
-    → getD (set b p (getD b p (pos 0) +ℤ pos amount)) i (pos 0) ≡ getD b i (pos 0) +ℤ pos (onlyAt i p amount)
-place-charged b p amount i h =
-    elim (ℕ-discrete i p) [
-      | yes e ↦ rw (e, getD-set-same b p (getD b p (pos 0) +ℤ pos amount) (pos 0) h, at-same)
-      | no n ↦ rw (getD-set-other b p i (getD b p (pos 0) +ℤ pos amount) (pos 0) n, at-other i p amount n) (sym (+ℤ-idr _))
-    ]
-
-place-credited : (b : List ℤ) (p amount i : ℕ) → p < length b
-    → getD (set b p (getD b p (pos 0) -ℤ pos amount)) i (pos 0) ≡ getD b i (pos 0) -ℤ pos (onlyAt i p amount)
-place-credited b p amount i h =
-    elim (ℕ-discrete i p) [
-      | yes e ↦ rw (e, getD-set-same b p (getD b p (pos 0) -ℤ pos amount) (pos 0) h, at-same)
-      | no n ↦ rw (getD-set-other b p i (getD b p (pos 0) -ℤ pos amount) (pos 0) n, at-other i p amount n) (sym (+ℤ-idr _))
-    ]
+place-added = place-changed (λ x n. x + n) 0 add-zero
 
 place-balance : (b : List ℤ) (charged charge credited credit i : ℕ) → charged < length b → credited < length b
     → getD (chargedAndCredited b charged charge credited credit) i (pos 0)
@@ -42,8 +32,8 @@ place-balance : (b : List ℤ) (charged charge credited credit i : ℕ) → char
 unfolding chargedAndCredited
 place-balance b charged charge credited credit i h g =
     let c : List ℤ = set b charged (getD b charged (pos 0) +ℤ pos charge) in
-    place-credited c credited credit i (simp length-set g)
-    ∙ ap (λ (z : ℤ). z -ℤ pos (onlyAt i credited credit)) (place-charged b charged charge i h)
+    place-changed (λ z n. z -ℤ pos n) (pos 0) +ℤ-idr c credited credit i (simp length-set g)
+    ∙ ap (λ (z : ℤ). z -ℤ pos (onlyAt i credited credit)) (place-changed (λ z n. z +ℤ pos n) (pos 0) +ℤ-idr b charged charge i h)
 
 module _ (l : Ledger) (e : Entry) (s : Sized l) (m : Small e) (i : ℕ) where
   -- charged and credited may be one place

@@ -91,14 +91,14 @@ pub fn book(l: Ledger, e: Entry) -> Ledger
     ensures { λ r. ⌜ r ≡ booked l e ⌝ }
 {
     let mut next = with_balances(l, e);
+    let entering = e.entering;
+    let leaving = e.leaving;
+    next.entered = changed(next.entered, entering, leaving);
     let user = e.user;
     let buyer = e.buyer;
     next.indirect[user] += e.power.0;
     next.bought_direct[buyer] += e.direct.0;
     next.bought_indirect[buyer] += e.indirect.0;
-    let entering = e.entering;
-    let leaving = e.leaving;
-    next.entered = changed(next.entered, entering, leaving);
     next.uncredited += e.lost.0;
     next
 }

@@ -2,24 +2,22 @@
 use mathlib.Core.Path.{_≡_, refl, sym, ap, ap₂, _∙_}
 use mathlib.Core.Bool.{Bool, true, false, cond}
 use mathlib.Core.List.{List, [], _∷_, map}
-use Prim.Native.Nat.{ℕ, suc, _+_, _-_, min, _≤_, _<_}
+use Prim.Native.Nat.{ℕ, suc, _+_, _-_, _≤_, _<_}
 use native.Mathlib.Nat.{lt-of-not-le}
 use native.Mathlib.Decide.{decLe}
 use native.Mathlib.Numerals.{add-one}
 use native.Mathlib.Omega.{arith}
 use borrow.Author.Tests.{ne-eqb, eqb-true, lt-ltb, le-ltb, ltb-true}
 use lib.Dec.{eqb, ltb}
-use lib.ListN.{length, take, drop, set, getD, replicate, length-take, length-drop, length-set}
+use lib.ListN.{length, take, drop, set, getD, replicate, length-take, length-drop, length-set, length-map}
 use lib.Seq.{sets, set-out, drop-cons, drop-drop, getD-drop}
 use Rattle.lines.specs.Lines.{LF, COMMA, beforeField, fieldsOf}
 use Rattle.lines.specs.Records.{Field, number, dash, other, kindOf, kindIn, fieldOf, recordOf}
-use Rattle.lines.specs.Words.{CAP, DASH, OTHER, word, words, lineLength, lineAt, ReadAt}
+use Rattle.lines.specs.Words.{word, words, lineLength, lineAt, ReadAt}
 use Rattle.lines.specs.Scan.{fieldLength, fieldAt, saidOf, wordOf, commaAt, stored, FieldReadAt}
 use Rattle.lines.specs.declared.Kind.{Kind}
 use Rattle.lines.specs.declared.Kind.the-variants.{Unknown}
-use Rattle.lines.specs.declared.Said.{Said}
 use Rattle.lines.specs.declared.FieldRead.{FieldRead}
-use Rattle.lines.specs.declared.LineRead.{LineRead}
 
 -- ---- the first field of the bytes that are left
 
@@ -196,10 +194,6 @@ pub record FieldsRead (s : List ℕ) (first : ℕ) (held : List ℕ) (count end 
 
 pub none-read : (s : List ℕ) (first : ℕ) → FieldsRead s first (replicate 8 0) 0 first
 none-read s first = record { size = refl; words = refl; counted = omega arith; ended = refl }
-
-length-map : {A B : Type 0} (f : A → B) (l : List A) → length (map f l) ≡ length l
-length-map f [] = refl
-length-map f (x ∷ l) = ap suc (length-map f l)
 
 module _ (s : List ℕ) (first : ℕ) (held : List ℕ) (count end : ℕ) (r : FieldsRead s first held count end) where
   pub one-read : (f : FieldRead) → commaAt s end ≡ true → FieldReadAt s (end + 1) f

@@ -12,9 +12,9 @@ use lib.Dec.{leb}
 use lib.ListN.{length, take, drop, getD, length-take, length-drop}
 use lib.Seq.{drop-cons, drop-length, getD-take, getD-drop}
 use Rattle.decimal.specs.Number.{isDigit, allDigits, isNumber, valueFrom, value}
-use Rattle.decimal.proofs.Bools.{never, and-both}
+use Rattle.decimal.proofs.Bools.{and-both}
 use Rattle.lines.specs.Lines.{LF, COMMA}
-use Rattle.lines.specs.Records.{Field, number, dash, other, isDash, fieldOf}
+use Rattle.lines.specs.Records.{Field, number, dash, other, fieldOf}
 use Rattle.lines.specs.Words.{CAP}
 use Rattle.lines.specs.Scan.{fieldLength, fieldAt, saidOf, Capped, digitsSaid, digitsFrom, ScannedAt, FieldReadAt, FieldBounds}
 use Rattle.lines.specs.declared.Said.{Said}
@@ -75,6 +75,10 @@ digits-none false n h = refl
 
 -- ---- the pass
 
+-- what the pass gives where it stops
+abbrev pub stopped : (value : ℕ) → (all : Bool) → (end : ℕ) → Scanned
+stopped value all end = record { value = value; all = all; end = end }
+
 -- what is known once the bytes from start to end are looked at
 pub record Scanning (s : List ℕ) (start value : ℕ) (all : Bool) (end : ℕ) : Type 0 where
   pub inside : end ≤ length s
@@ -87,7 +91,7 @@ none-scanned s start h = record { inside = h; capped = omega arith; ends = refl;
 
 module _ (s : List ℕ) (start value : ℕ) (all : Bool) (end : ℕ) (k : Scanning s start value all end) where
   -- the field ends where no byte of it is left
-  pub scanned : fieldLength (drop end s) ≡ 0 → ScannedAt s start (record { value = value; all = all; end = end })
+  pub scanned : fieldLength (drop end s) ≡ 0 → ScannedAt s start (stopped value all end)
   scanned z =
       record {
         said = digits-none all value (k .capped) ∙ ap (λ (n : ℕ). digitsFrom all value (take n (drop end s))) (sym z) ∙ k .said;
@@ -95,7 +99,7 @@ module _ (s : List ℕ) (start value : ℕ) (all : Bool) (end : ℕ) (k : Scanni
         most = k .inside;
       }
 
-  pub scanned-end : length s ≤ end → ScannedAt s start (record { value = value; all = all; end = end })
+  pub scanned-end : length s ≤ end → ScannedAt s start (stopped value all end)
   scanned-end h =
       let e : end ≡ length s = omega (arith, k .inside) in
       scanned (ap (λ (j : ℕ). fieldLength (drop j s)) e ∙ ap fieldLength (drop-length s) ∙ field-none)
@@ -110,10 +114,10 @@ module _ (s : List ℕ) (start value : ℕ) (all : Bool) (end : ℕ) (k : Scanni
     left : drop end s ≡ b ∷ rest
     left = rw add-one (drop-cons s end 0 h)
 
-    pub scanned-LF : b ≡ LF → ScannedAt s start (record { value = value; all = all; end = end })
+    pub scanned-LF : b ≡ LF → ScannedAt s start (stopped value all end)
     scanned-LF e = scanned (ap fieldLength left ∙ field-LF b rest e)
 
-    pub scanned-comma : b ≡ COMMA → ScannedAt s start (record { value = value; all = all; end = end })
+    pub scanned-comma : b ≡ COMMA → ScannedAt s start (stopped value all end)
     scanned-comma e = scanned (ap fieldLength left ∙ field-comma b rest e)
 
     -- one more byte of the field

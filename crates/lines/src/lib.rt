@@ -1,13 +1,12 @@
 // Document 01, "The sheet": bytes to lines, fields and records. The definitions are in specs/.
 ghost use mathlib.Core.Path.{_≡_};
-ghost use mathlib.Core.Bool.{_&&_};
 ghost use Prim.Native.Nat.{_+_, _-_, min, _≤_};
 ghost use lib.ListN.{length, take, drop};
 ghost use Rattle.decimal.specs.Number.{isDigit};
 ghost use Rattle.lines.specs.Lines.{linesOf, lineBytes, lineStart};
 ghost use Rattle.lines.specs.Records.{kindOf, kindIn};
-ghost use Rattle.lines.specs.Words.{lineLength, ReadAt};
-ghost use Rattle.lines.specs.Scan.{fieldAt, wordOf, digitsSaid, ScannedAt, FieldReadAt, FieldBounds, commaAt, stored, PlaceOf};
+ghost use Rattle.lines.specs.Words.{CAP, lineLength, ReadAt};
+ghost use Rattle.lines.specs.Scan.{wordOf, digitsSaid, ScannedAt, FieldReadAt, FieldBounds, commaAt, stored, PlaceOf};
 
 // The seven kinds of lines, and a line whose first field is none of their letters.
 pub enum Kind {
@@ -68,7 +67,9 @@ pub struct Place {
     pub length: usize,
 }
 
-// `0` to `9`.
+// ---- a field: what stands between two commas, or before the LF
+
+// A decimal digit, `0` to `9`.
 fn is_digit(byte: u8) -> bool
     ensures { λ r. ⌜ r ≡ isDigit byte ⌝ }
 {
@@ -83,12 +84,12 @@ fn wide(byte: u8) -> u64
 
 // A number, or CAP for each above it.
 fn capped(n: u64) -> u64
-    ensures { λ r. ⌜ r ≡ min n 1000000000001 ⌝ }
+    ensures { λ r. ⌜ r ≡ min n CAP ⌝ }
 {
     if n <= CAP { n } else { CAP }
 }
 
-// One pass over the bytes of the field that starts here.
+// The field that starts here, in one pass over its bytes: it ends at a comma, at the LF or where the sheet ends.
 fn scan_field(s: &[u8], start: usize) -> Scanned
     requires { ⌜ start ≤ length (now s) ⌝ }
     ensures { λ r. ⌜ ScannedAt (now (s .entry)) start r ⌝ }
@@ -114,6 +115,7 @@ fn scan_field(s: &[u8], start: usize) -> Scanned
     Scanned { value, all, end }
 }
 
+// A number, if all bytes are digits.
 fn digits_said(f: Scanned) -> Said
     ensures { λ r. ⌜ r ≡ digitsSaid (f .all) (f .value) ⌝ }
 {
@@ -124,7 +126,7 @@ fn digits_said(f: Scanned) -> Said
     }
 }
 
-// The field that starts here.
+// The field that starts here. A number is one or more decimal digits, however many, with no leading zero except `0` itself.
 pub fn read_field(s: &[u8], start: usize) -> FieldRead
     requires { ⌜ start ≤ length (now s) ⌝ }
     ensures { λ r. ⌜ FieldReadAt (now (s .entry)) start r ⌝ }
@@ -163,7 +165,9 @@ pub fn read_field(s: &[u8], start: usize) -> FieldRead
     }
 }
 
-// A field's word.
+// ---- a line: its kind's letter, then its fields
+
+// A field in one word.
 fn word_of(said: Said) -> u64
     ensures { λ r. ⌜ r ≡ wordOf said ⌝ }
 {
@@ -190,7 +194,7 @@ fn kind_of(letter: u8) -> Kind
     }
 }
 
-// The kind of a line by its first field.
+// The kind of a line by its first field, which is one letter.
 fn kind_in(s: &[u8], start: usize, end: usize) -> Kind
     requires { ⌜ (start ≤ end) × (end ≤ length (now s)) ⌝ }
     ensures { λ r. ⌜ r ≡ kindIn (take (end - start) (drop start (now (s .entry)))) ⌝ }
@@ -201,7 +205,7 @@ fn kind_in(s: &[u8], start: usize, end: usize) -> Kind
     Kind::Unknown
 }
 
-// Whether a comma stands here: behind a field it means one more.
+// A comma behind a field: one more field follows.
 fn comma_at(s: &[u8], place: usize) -> bool
     ensures { λ r. ⌜ r ≡ commaAt (now (s .entry)) place ⌝ }
 {
@@ -212,7 +216,7 @@ fn comma_at(s: &[u8], place: usize) -> bool
     }
 }
 
-// A word is kept if it is one of the first eight.
+// The first eight words are kept; fields past them are only counted.
 fn store(words: &mut [u64; WORDS], k: usize, word: u64)
     ensures { λ r. ⌜ now (words .exit) ≡ stored (now (words .entry)) k word ⌝ }
 {
@@ -247,7 +251,9 @@ pub fn read_line(s: &[u8], start: usize) -> LineRead
     }
 }
 
-// The place of the LF of the line that starts here, or of the sheet's end.
+// ---- the offending line had back
+
+// The place of the LF of the line that starts here, or of the sheet's end where it lacks it.
 fn line_end(s: &[u8], start: usize) -> usize
     requires { ⌜ start ≤ length (now s) ⌝ }
     ensures { λ r. ⌜ r ≡ start + lineLength (drop start (now (s .entry))) ⌝ }
@@ -263,7 +269,7 @@ fn line_end(s: &[u8], start: usize) -> usize
     end
 }
 
-// Where line n starts: line 1 is the first.
+// The place where a line starts. Line 1 is the first.
 fn line_start(s: &[u8], line: usize) -> usize
     ensures { λ r. ⌜ r ≡ lineStart (linesOf (now (s .entry))) line ⌝ }
 {
@@ -279,7 +285,7 @@ fn line_start(s: &[u8], line: usize) -> usize
     start
 }
 
-// Where a line stands: nowhere long for line 0, and at the sheet's end past the last line.
+// The place of a line in the sheet: of length 0 for line 0 and, at the sheet's end, past the last line.
 pub fn line_place(s: &[u8], line: usize) -> Place
     ensures { λ r. ⌜ PlaceOf (now (s .entry)) line r ⌝ }
 {
@@ -303,7 +309,7 @@ pub fn line_place(s: &[u8], line: usize) -> Place
     }
 }
 
-// The offending line, as that part of the lent sheet, without its LF: empty where the line is 0.
+// The offending line as that part of the lent sheet, without its LF: empty where the line is 0.
 pub fn offending_line(s: &[u8], line: usize) -> &[u8]
     ensures { λ r. ⌜ now r ≡ lineBytes (linesOf (now (s .entry))) line ⌝ }
 {

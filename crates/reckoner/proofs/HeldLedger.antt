@@ -1,7 +1,7 @@
 -- What the ledger holds of the lines above, and one line more. Assumes nothing.
 use mathlib.Core.Path.{_≡_, refl, ap, _∙_}
 use mathlib.Core.List.{List, [], _∷_}
-use Prim.Native.Nat.{ℕ, suc, _+_, _*_}
+use Prim.Native.Nat.{ℕ, suc, _+_, _*_, _≤_}
 use native.Mathlib.Omega.{arith}
 use lib.IntN.{ℤ, pos, _+ℤ_, _-ℤ_}
 use lib.ListN.{length, getD}
@@ -16,6 +16,7 @@ use Rattle.ledger.proofs.Places.{balance-booked, indirect-booked, bought-direct
 use Rattle.entries.specs.Entries.{entry}
 use Rattle.reckoner.proofs.Differences.{diff, diff-pos, diff-plus, diff-minus, diff-eq}
 use Rattle.reckoner.proofs.Entries.{plus, minus}
+use Rattle.reckoner.proofs.Bounds.{intoProcesses, outOfProcesses}
 
 -- the figures are the sums over the entries of the lines above, and each line added at most STEP to each
 pub record HeldLedger (above : List Record) (l : Ledger) : Type 0 where
@@ -27,6 +28,9 @@ pub record HeldLedger (above : List Record) (l : Ledger) : Type 0 where
   pub entered : l .entered ≡ diff (sumOf (λ r. entry r .entering .0) above) (sumOf (λ r. entry r .leaving .0) above)
   pub uncredited : l .uncredited ≡ sumOf (λ r. entry r .lost .0) above
   pub within : Within (length above * STEP) l
+  -- what all lines put into processes, and what they take from them
+  pub into : sumOf intoProcesses above ≤ length above * STEP
+  pub out : sumOf outOfProcesses above ≤ length above * STEP
 
 pub held-start : HeldLedger [] start
 unfolding start sumOf
@@ -39,6 +43,8 @@ held-start = record {
   entered = diff-pos 0;
   uncredited = refl;
   within = within-start;
+  into = omega arith;
+  out = omega arith;
 }
 
 -- a line booked
@@ -56,6 +62,8 @@ held-booked above l r m h = record {
   entered = entered-booked;
   uncredited = uncredited-booked;
   within = rw more (within-booked (length above * STEP) l (entry r) (h .within) m);
+  into = omega (arith, h .into, m .into);
+  out = omega (arith, h .out, m .moved);
 }
   where
     moved : (a b c d : ℕ) → diff a b +ℤ pos c -ℤ pos d ≡ diff (c + a) (d + b)

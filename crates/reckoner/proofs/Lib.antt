@@ -10,3 +10,6 @@ pub mod Sheet
 pub mod Bounds
 pub mod HeldLedger
 pub mod HeldGoods
+pub mod AnyOrder
+pub mod Judged
+pub mod Noted

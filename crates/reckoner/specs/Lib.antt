@@ -3,4 +3,5 @@ pub mod Sums
 pub mod Attribution
 pub mod Reckoning
 pub mod Verdict
+pub mod Works
 pub mod Cases

@@ -31,7 +31,7 @@ module _ (limits : Limits) where
     pub once : secondOfPair limits above (recordOf l) ≡ false
     pub within : outputExceeded limits above (recordOf l) ≡ false
 
-  line-fine : (above : List Record) (l : Line) → All Passes (lineChecks limits above l) → Fine above l
+  pub line-fine : (above : List Record) (l : Line) → All Passes (lineChecks limits above l) → Fine above l
   unfolding lineChecks
   line-fine above l h =
       let rest = all-append Passes (fieldChecks limits (suc (length above)) (rulesOf limits (recordOf l)) (recordOf l .said)) _ (h .1 .1 .1 .1) in

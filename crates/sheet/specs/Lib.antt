@@ -4,3 +4,4 @@ pub mod Kinds
 pub mod Refusals
 pub mod Verdict
 pub mod Cases
+pub mod Code

@@ -1,10 +1,13 @@
 -- `ledger::book` meets its contract. Assumes nothing.
 use mathlib.Core.Path.{_≡_}
+use mathlib.Core.List.{List}
+use Prim.Native.Nat.{ℕ, _+_, _≤_}
 use native.Mathlib.Omega.{arith}
 use borrow.Author.Needs.{needs}
 use lib.IntN.{ℤ, pos, _+ℤ_, _-ℤ_}
+use lib.ListN.{getD}
 use mir.Syntax.{w64}
-use mir.Val.{toZ, ofZ}
+use mir.Val.{Fits, toZ, ofZ}
 use Rattle.ledger.specs.Ledger.{STEP, balanced, booked}
 use Rattle.ledger.proofs.Sizes.{kept, size-moved}
 use Rattle.ledger.proofs.book.Statement.{statement}
@@ -27,12 +30,25 @@ module _ (c : tie.Start) where
         c .pre .0 .entered,
       ))
 
-after-changed : (c : tie.After-changed) → c .changed .result ≡ outcome (c .before .before .before .before .before .before .before .before .before .before .before)
+after-changed : (c : tie.After-changed) → c .changed .result ≡ outcome (c .before .before .before .before .before)
 unfolding balanced
-after-changed c = simp (c .before .before .before .before .before .before .before .before .before .before .with-balances .ensures, entered-fits (c .before .before .before .before .before .before .before .before .before .before .before)) at (c .changed .ensures)
+after-changed c =
+    let k = c .before .before .before .before in
+    simp (k .with-balances .ensures, entered-fits (k .before)) at (c .changed .ensures)
+
+-- every place has room
+added-fits : (l : List ℕ) (i amount : ℕ) → ((j : ℕ) → getD l j 0 ≤ 9200000000000000000) → amount ≤ STEP → Fits w64 (getD l i 0 + amount)
+added-fits l i amount h small = record { fits = omega (arith, h i) }
 
 with-balances-requires : tie.Need-with-balances-requires
 with-balances-requires c κs = search needs
+
+changed-requires : tie.Need-changed-requires
+unfolding balanced
+changed-requires c κs =
+    let k = c .before .before .before in
+    let m = k .before .pre .1 in
+    simp (k .with-balances .ensures, entered-fits (k .before)) (omega (arith, k .before .pre .0 .entered), (omega arith, omega arith))
 
 mul-next : tie.Need-mul-next
 mul-next c = search needs
@@ -43,8 +59,8 @@ element-copy-out-next c = search needs
 add-next : tie.Need-add-next
 unfolding balanced
 add-next c =
-    let k = c .before .before in
-    rw (k .with-balances .ensures) (record { fits = omega (arith, k .before .pre .0 .indirect (k .before .args .e .user), k .before .pre .1 .into) })
+    let k = c .before .before .before .before .before .before in
+    rw (k .with-balances .ensures) (added-fits (k .before .args .l .indirect) _ (k .before .args .e .power .0) (k .before .pre .0 .indirect) (omega (arith, k .before .pre .1 .into)))
 
 element-write-next : tie.Need-element-write-next
 element-write-next c = search needs
@@ -58,8 +74,8 @@ element-copy-out-next-2 c = search needs
 add-next-2 : tie.Need-add-next-2
 unfolding balanced
 add-next-2 c =
-    let k = c .before .before .before .before in
-    rw (k .with-balances .ensures) (record { fits = omega (arith, k .before .pre .0 .bought-direct (k .before .args .e .buyer), k .before .pre .1 .into) })
+    let k = c .before .before .before .before .before .before .before .before in
+    rw (k .with-balances .ensures) (added-fits (k .before .args .l .«bought_direct») _ (k .before .args .e .direct .0) (k .before .pre .0 .bought-direct) (omega (arith, k .before .pre .1 .into)))
 
 element-write-next-2 : tie.Need-element-write-next-2
 element-write-next-2 c = search needs
@@ -73,18 +89,11 @@ element-copy-out-next-3 c = search needs
 add-next-3 : tie.Need-add-next-3
 unfolding balanced
 add-next-3 c =
-    let k = c .before .before .before .before .before .before in
-    rw (k .with-balances .ensures) (record { fits = omega (arith, k .before .pre .0 .bought-indirect (k .before .args .e .buyer), k .before .pre .1 .into) })
+    let k = c .before .before .before .before .before .before .before .before .before .before in
+    rw (k .with-balances .ensures) (added-fits (k .before .args .l .«bought_indirect») _ (k .before .args .e .indirect .0) (k .before .pre .0 .bought-indirect) (omega (arith, k .before .pre .1 .into)))
 
 element-write-next-3 : tie.Need-element-write-next-3
 element-write-next-3 c = search needs
-
-changed-requires : tie.Need-changed-requires
-unfolding balanced
-changed-requires c κs =
-    let k = c .before .before .before .before .before .before .before .before .before in
-    simp (k .with-balances .ensures, entered-fits (k .before))
-    (omega (arith, k .before .pre .0 .entered), (k .before .pre .1 .entering, k .before .pre .1 .leaving))
 
 add-next-4 : tie.Need-add-next-4
 unfolding balanced
@@ -96,13 +105,14 @@ returns : tie.Need-returns
 unfolding balanced booked
 returns c =
     let k = c .before .before .before .before .before .before .before .before .before .before .before in
-    simp (k .with-balances .ensures, after-changed (c .before), outcome-fits (k .before))
+    simp (k .with-balances .ensures, after-changed (c .before .before .before .before .before .before .before), outcome-fits (k .before))
 
 pub book-spec : {M : Type 1} → statement M
 book-spec =
     tie.close
     (tie.spec
     with-balances-requires
+    changed-requires
     mul-next
     element-copy-out-next
     add-next
@@ -115,6 +125,5 @@ book-spec =
     element-copy-out-next-3
     add-next-3
     element-write-next-3
-    changed-requires
     add-next-4
     returns)

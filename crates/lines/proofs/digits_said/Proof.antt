@@ -1,8 +1,6 @@
 use borrow.Author.Needs.{needs}
 use Rattle.lines.proofs.digits_said.Statement.{statement}
 use Rattle.lines.proofs.digits_said.Tie as tie
-use Rattle.lines.proofs.digits_said.Reads as reads
-use Rattle.lines.proofs.digits_said.Lts as lts
 
 returns : tie.Need-returns
 returns c = rw (c .if1 .taken)

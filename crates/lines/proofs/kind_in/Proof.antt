@@ -3,9 +3,6 @@ use Rattle.lines.proofs.Fields.{kind-one, kind-other}
 use borrow.Author.Needs.{needs}
 use Rattle.lines.proofs.kind_in.Statement.{statement}
 use Rattle.lines.proofs.kind_in.Tie as tie
-use Rattle.lines.proofs.kind_in.Reads as reads
-use Rattle.lines.proofs.kind_in.Lts as lts
-use Rattle.lines.proofs.kind_of.Reads as kind-of-reads
 
 sub-if1 : tie.Need-sub-if1
 sub-if1 c = search needs

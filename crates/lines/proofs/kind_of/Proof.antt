@@ -3,8 +3,6 @@ use borrow.Author.Tests.{ne-eqb}
 use Rattle.lines.specs.Records.{kindOf}
 use Rattle.lines.proofs.kind_of.Statement.{statement}
 use Rattle.lines.proofs.kind_of.Tie as tie
-use Rattle.lines.proofs.kind_of.Reads as reads
-use Rattle.lines.proofs.kind_of.Lts as lts
 
 returns : tie.Need-returns
 returns c = sym (ap kindOf (c .match .keys1))

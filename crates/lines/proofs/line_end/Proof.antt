@@ -6,8 +6,6 @@ use Rattle.lines.specs.Words.{lineLength}
 use Rattle.lines.proofs.NextLine.{line-past, line-LF, line-none}
 use Rattle.lines.proofs.line_end.Statement.{statement}
 use Rattle.lines.proofs.line_end.Tie as tie
-use Rattle.lines.proofs.line_end.Reads as reads
-use Rattle.lines.proofs.line_end.Lts as lts
 
 abbrev Inv-loop : tie.InvT-loop
 Inv-loop s start end₀ end = (start ≤ end) × (end ≤ length s) × (end + lineLength (drop end s) ≡ start + lineLength (drop start s))

@@ -2,10 +2,6 @@ use borrow.Author.Needs.{needs}
 use Rattle.lines.proofs.NextLine.{place-none, place-past, place-of}
 use Rattle.lines.proofs.line_place.Statement.{statement}
 use Rattle.lines.proofs.line_place.Tie as tie
-use Rattle.lines.proofs.line_place.Reads as reads
-use Rattle.lines.proofs.line_place.Lts as lts
-use Rattle.lines.proofs.line_end.Reads as line-end-reads
-use Rattle.lines.proofs.line_start.Reads as line-start-reads
 
 returns : tie.Need-returns
 returns c = rw (c .if1 .taken) (place-none _)

@@ -1,14 +1,11 @@
-use mathlib.Core.Path.{_≡_, sym, _∙_}
-use Prim.Native.Nat.{_+_, _≤_, _<_}
+use mathlib.Core.Path.{_≡_, _∙_}
+use Prim.Native.Nat.{_+_}
 use native.Mathlib.Omega.{arith}
-use lib.ListN.{length, drop}
+use lib.ListN.{drop}
 use Rattle.lines.specs.Lines.{linesOf, lineStart}
 use Rattle.lines.proofs.NextLine.{start-first, start-past, start-later}
 use Rattle.lines.proofs.line_start.Statement.{statement}
 use Rattle.lines.proofs.line_start.Tie as tie
-use Rattle.lines.proofs.line_start.Reads as reads
-use Rattle.lines.proofs.line_start.Lts as lts
-use Rattle.lines.proofs.line_end.Reads as line-end-reads
 
 abbrev Inv-loop : tie.InvT-loop
 Inv-loop s line start₀ left₀ start left = start + lineStart (linesOf (drop start s)) left ≡ lineStart (linesOf s) line

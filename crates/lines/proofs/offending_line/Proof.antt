@@ -2,9 +2,6 @@ use borrow.Author.Needs.{needs}
 use Rattle.lines.proofs.NextLine.{place-bytes}
 use Rattle.lines.proofs.offending_line.Statement.{statement}
 use Rattle.lines.proofs.offending_line.Tie as tie
-use Rattle.lines.proofs.offending_line.Reads as reads
-use Rattle.lines.proofs.offending_line.Lts as lts
-use Rattle.lines.proofs.line_place.Reads as line-place-reads
 
 line-place-requires : tie.Need-line-place-requires
 line-place-requires c κs = search needs

@@ -2,10 +2,6 @@ use borrow.Author.Needs.{needs}
 use Rattle.lines.proofs.Scanning.{done-none, done-dash, done-one, done-zero, done-many}
 use Rattle.lines.proofs.read_field.Statement.{statement}
 use Rattle.lines.proofs.read_field.Tie as tie
-use Rattle.lines.proofs.read_field.Reads as reads
-use Rattle.lines.proofs.read_field.Lts as lts
-use Rattle.lines.proofs.digits_said.Reads as digits-said-reads
-use Rattle.lines.proofs.scan_field.Reads as scan-field-reads
 
 scan-field-requires : tie.Need-scan-field-requires
 scan-field-requires c κs = search needs

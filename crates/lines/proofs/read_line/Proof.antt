@@ -8,13 +8,6 @@ use Rattle.lines.specs.Scan.{commaAt}
 use Rattle.lines.proofs.Fields.{comma-in, FieldsRead, none-read, one-read, all-read}
 use Rattle.lines.proofs.read_line.Statement.{statement}
 use Rattle.lines.proofs.read_line.Tie as tie
-use Rattle.lines.proofs.read_line.Reads as reads
-use Rattle.lines.proofs.read_line.Lts as lts
-use Rattle.lines.proofs.comma_at.Reads as comma-at-reads
-use Rattle.lines.proofs.kind_in.Reads as kind-in-reads
-use Rattle.lines.proofs.read_field.Reads as read-field-reads
-use Rattle.lines.proofs.store.Reads as store-reads
-use Rattle.lines.proofs.word_of.Reads as word-of-reads
 
 abbrev Inv-loop : tie.InvT-loop
 Inv-loop s start end₀ kind words₀ count₀ end words count = (start ≤ end) × (end ≤ length s) × (count ≤ end) × FieldsRead s end₀ words count end

@@ -1,18 +1,11 @@
-use mathlib.Core.Path.{_≡_, sym, _∙_}
+use mathlib.Core.Path.{sym, _∙_}
 use mathlib.Core.Logic.{⊎-elim}
-use mathlib.Core.Bool.{true, false}
 use Prim.Native.Nat.{_-_}
 use native.Mathlib.Omega.{arith}
-use borrow.Author.Needs.{needs}
 use lib.ListN.{length}
 use Rattle.lines.proofs.Scanning.{digit-range, Scanning, none-scanned, scanned-end, scanned-LF, scanned-comma, other-scanned, digit-scanned}
 use Rattle.lines.proofs.scan_field.Statement.{statement}
 use Rattle.lines.proofs.scan_field.Tie as tie
-use Rattle.lines.proofs.scan_field.Reads as reads
-use Rattle.lines.proofs.scan_field.Lts as lts
-use Rattle.lines.proofs.capped.Reads as capped-reads
-use Rattle.lines.proofs.is_digit.Reads as is-digit-reads
-use Rattle.lines.proofs.wide.Reads as wide-reads
 
 abbrev Inv-loop : tie.InvT-loop
 Inv-loop s start value₀ all₀ end₀ value all end = Scanning s start value all end

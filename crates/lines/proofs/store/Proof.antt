@@ -2,8 +2,6 @@ use borrow.Author.Tests.{lt-ltb, le-ltb}
 use borrow.Author.Needs.{needs}
 use Rattle.lines.proofs.store.Statement.{statement}
 use Rattle.lines.proofs.store.Tie as tie
-use Rattle.lines.proofs.store.Reads as reads
-use Rattle.lines.proofs.store.Lts as lts
 
 mul-words : tie.Need-mul-words
 mul-words c = search needs

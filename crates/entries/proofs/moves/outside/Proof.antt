@@ -1,0 +1,17 @@
+use mathlib.Core.Path.{sym}
+use borrow.Author.Needs.{needs}
+use borrow.Author.Tests.{eq-eqb, ne-eqb}
+use Rattle.goods.specs.Sums.{onlyAt}
+use Rattle.entries.proofs.moves.outside.Statement.{statement}
+use Rattle.entries.proofs.moves.outside.Tie as tie
+
+returns : tie.Need-returns
+unfolding onlyAt
+returns c = (rw (eq-eqb 0 (c .before .args .end) (sym (c .if1 .taken))), search needs)
+
+returns-2 : tie.Need-returns-2
+unfolding onlyAt
+returns-2 c = (rw (ne-eqb 0 (c .before .args .end) (λ e. c .if1 .left (sym e))), search needs)
+
+pub outside-spec : {M : Type 1} → statement M
+outside-spec = tie.close (tie.spec returns returns-2)

@@ -1,0 +1,20 @@
+use mathlib.Core.Path.{ap₂}
+use Prim.Native.Nat.{ℕ}
+use borrow.Author.Needs.{needs}
+use Rattle.entries.specs.Entries.{moved}
+use Rattle.entries.proofs.moves.power_entry.Statement.{statement}
+use Rattle.entries.proofs.moves.power_entry.Tie as tie
+
+outside-requires : tie.Need-outside-requires
+outside-requires c κs = search needs
+
+outside-requires-2 : tie.Need-outside-requires-2
+outside-requires-2 c κs = search needs
+
+returns : tie.Need-returns
+returns c =
+    let s = c .before .before .args in
+    (ap₂ (λ (entering leaving : ℕ). moved 0 0 (s .from) (s .weight .0) (s .to) (s .weight .0) entering leaving 0) (c .before .outside .ensures .0) (c .outside2 .ensures .0), search needs)
+
+pub power-entry-spec : {M : Type 1} → statement M
+power-entry-spec = tie.close (tie.spec outside-requires outside-requires-2 returns)

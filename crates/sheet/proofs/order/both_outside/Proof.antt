@@ -1,0 +1,14 @@
+use borrow.Author.Tests.{eq-eqb, ne-eqb, lt-ltb, le-ltb, le-leb, lt-leb}
+use Rattle.sheet.proofs.order.both_outside.Statement.{statement}
+use Rattle.sheet.proofs.order.both_outside.Tie as tie
+use Rattle.sheet.proofs.order.both_outside.Reads as reads
+use Rattle.sheet.proofs.order.both_outside.Lts as lts
+
+returns : tie.Need-returns
+returns c = simp (eq-eqb _ _ (c .if1 .taken))
+
+returns-2 : tie.Need-returns-2
+returns-2 c = simp (ne-eqb _ _ (c .if1 .left))
+
+pub both-outside-spec : {M : Type 1} → statement M
+both-outside-spec = tie.close (tie.spec returns returns-2)
