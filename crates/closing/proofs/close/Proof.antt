@@ -1,0 +1,96 @@
+-- `closing::close` meets its contract. Assumes nothing.
+use mathlib.Core.Path.{_≡_, refl, sym, ap, _∙_}
+use mathlib.Core.List.{List}
+use Prim.Native.Nat.{ℕ, _+_, _^_, _≤_, _<_}
+use native.Mathlib.Omega.{arith}
+use borrow.Author.Needs.{needs}
+use lib.ListN.{length, getD}
+use denote.Ref.{now}
+use Rattle.goods.specs.Settling.{SIZE, figures, pairs}
+use Rattle.goods.proofs.Sums.{sum-cong}
+use Rattle.closing.specs.Closing.{together, ownDirect, ownIndirect, Pooled}
+use Rattle.closing.proofs.Pooling.{settleable-cong, pooled-cong}
+use Rattle.closing.proofs.close.Statement.{statement}
+use Rattle.closing.proofs.close.Tie as tie
+
+indirect-size : (c : tie.Start) → length (c .args .l .indirect) ≡ SIZE
+indirect-size c = search needs
+
+-- balances are raised
+module _ (c : tie.After-raise-all) where
+  abbrev start : tie.Start
+  start = c .before .before .before .before .before
+
+  own-is : (k : ℕ) → 1 ≤ k → k ≤ start .args .count
+      → together (c .raise-all .result .direct) (start .args .l .«bought_direct») k ≡ ownDirect (start .args .l) k
+  own-is k l h = ap (λ (n : ℕ). n + getD (start .args .l .«bought_direct») k 0) (c .raise-all .ensures .0 .at k l h)
+
+-- pools of both kinds are settled
+module _ (c : tie.After-pools-from2) where
+  abbrev raised : tie.After-raise-all
+  raised = c .before .before .before .before .before
+
+  abbrev PooledOver : (own : ℕ → ℕ) → (pools lefts : List ℕ) → (left : ℕ) → Type 0
+  PooledOver =
+      let a = start raised .args in
+      Pooled (a .count) (figures (a .outputs)) (pairs (now (a .kilos)))
+
+  direct-pooled : PooledOver (ownDirect (start raised .args .l)) (c .before .pools-from .result .pools) (c .before .pools-from .result .lefts)
+      (c .before .pools-from .result .left .0)
+  direct-pooled = pooled-cong (own-is raised) (c .before .pools-from .ensures)
+
+  indirect-pooled : PooledOver (ownIndirect (start raised .args .l)) (c .pools-from2 .result .pools) (c .pools-from2 .result .lefts)
+      (c .pools-from2 .result .left .0)
+  indirect-pooled = c .pools-from2 .ensures
+
+  left-fits : c .before .pools-from .result .left .0 + c .pools-from2 .result .left .0 < 2 ^ 63
+  left-fits = omega (arith, start raised .pre .own, direct-pooled .kept, indirect-pooled .kept)
+
+raise-all-requires : tie.Need-raise-all-requires
+raise-all-requires c κs = search needs
+
+total-requires : tie.Need-total-requires
+total-requires c κs =
+    let k = c .before .before in
+    (omega (arith, start k .pre .few), rw (sum-cong _ _ _ (k .raise-all .ensures .1 .at)) (start k .pre .raised))
+
+pools-from-requires : tie.Need-pools-from-requires
+pools-from-requires c κs =
+    let k = c .before .before .before in
+    (start k .pre .few, settleable-cong (λ n l h. sym (own-is k n l h)) (start k .pre .direct))
+
+pools-from-requires-2 : tie.Need-pools-from-requires-2
+pools-from-requires-2 c κs = search needs
+
+add-left : tie.Need-add-left
+add-left c = record { fits = omega (arith, left-fits (c .before .before .before .before .before .before .before .before)) }
+
+returns : tie.Need-returns
+returns c =
+    let h = c .before .before .before .before .before .before .before .before in
+    let r = raised h in
+    let d = direct-pooled h in
+    let i = indirect-pooled h in
+    record {
+      direct = record { size = r .raise-all .ensures .0 .size; at = r .raise-all .ensures .0 .at };
+      indirect = record { size = indirect-size (start r); at = λ k l u. refl };
+      raised = record { size = r .raise-all .ensures .1 .size; at = r .raise-all .ensures .1 .at };
+      direct-pools = d .pool;
+      indirect-pools = i .pool;
+      direct-lefts = d .rest;
+      indirect-lefts = i .rest;
+      left = cc (d .all, i .all);
+      left-small = left-fits h;
+      total-raised = h .before .before .total .ensures ∙ sum-cong _ _ _ (r .raise-all .ensures .1 .at);
+    }
+
+pub close-spec : {M : Type 1} → statement M
+close-spec =
+    tie.close
+    (tie.spec
+    raise-all-requires
+    total-requires
+    pools-from-requires
+    pools-from-requires-2
+    add-left
+    returns)
