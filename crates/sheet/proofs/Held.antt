@@ -97,7 +97,9 @@ module _ (limits : Limits) where
 
       next : is Process (recordOf l) ≡ true → (process (recordOf l) ≡ suc (length above)) × (processes ≡ length above)
       next e =
-          let both = or-neither (not (eqb (process (recordOf l)) (suc (length above)))) (anyOf (λ q. not (is Process q)) above) (sym (ap (λ (t : Bool). t && (not (eqb (process (recordOf l)) (suc (length above))) || anyOf (λ q. not (is Process q)) above)) e) ∙ fine .next) in (
+          let others : Bool = anyOf (λ q. not (is Process q)) above in
+          let turn : Bool = not (eqb (process (recordOf l)) (suc (length above))) in
+          let both = or-neither turn others (sym (ap (λ (t : Bool). t && (turn || others)) e) ∙ fine .next) in (
             eqb-true _ _ (not-false (eqb (process (recordOf l)) (suc (length above))) (both .0)),
             eqb-true _ _ (not-false (eqb processes (length above)) (sym (h .others) ∙ both .1)),
           )

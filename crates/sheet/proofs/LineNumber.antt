@@ -116,7 +116,8 @@ module _ (limits : Limits) (small : limits .processes < CAP) (above : List Recor
           )
       go Unknown e m n = (refl, refl)
 
-  order-number : chain (processNotNext limits above r) (missingProcess limits above r) (endsNotAllowed limits r) (noStandardValue limits r) (secondOfPair limits above r) (outputExceeded limits above r)
+  order-number : chain (processNotNext limits above r) (missingProcess limits above r) (endsNotAllowed limits r)
+      (noStandardValue limits r) (secondOfPair limits above r) (outputExceeded limits above r)
       ≡ orderNumber limits (r .kind) (words (r .said)) (length above) processes output taken pair
   unfolding orderNumber
   order-number =
