@@ -1,27 +1,26 @@
 -- What the words of a line's fields say is what the fields say: rows 6 and 7. Assumes nothing.
-use mathlib.Core.Path.{_≡_, refl, sym, ap, ap₂, _∙_}
-use mathlib.Core.Logic.{_⊎_, inl, inr}
+use mathlib.Core.Path.{_≡_, refl, ap, _∙_}
 use mathlib.Core.Bool.{Bool, true, false, cond, _&&_, _||_, not}
 use mathlib.Core.List.{List, [], _∷_, _++_, map}
 use Prim.Native.Nat.{ℕ, zero, suc, _+_, min, _≤_, _<_}
 use native.Mathlib.Nat.{lt-of-not-le}
 use native.Mathlib.Decide.{decLe}
 use native.Mathlib.Omega.{arith}
-use borrow.Author.Tests.{eq-eqb, ne-eqb, eqb-true, eqb-false, ltb-true, ltb-false, leb-true, leb-false, le-leb, lt-leb, lt-ltb, le-ltb, not-true}
+use borrow.Author.Tests.{eq-eqb, ne-eqb, eqb-true, eqb-false, ltb-true, leb-true, le-leb, lt-leb, lt-ltb, le-ltb}
 use lib.Dec.{eqb, leb, ltb}
 use lib.ListN.{length, getD, set, replicate, length-set, length-map, List·getD-eq-default}
 use lib.Seq.{sets, getD-set-same, getD-set-other}
-use Rattle.decimal.proofs.Bools.{never, and-both}
-use Rattle.lines.specs.Records.{Field, number, dash, other, numberIn}
+use Rattle.decimal.proofs.Bools.{and-both}
+use Rattle.lines.specs.Records.{Field, number, dash, other}
 use Rattle.lines.specs.Words.{CAP, DASH, OTHER, word, words}
 use Rattle.lines.specs.declared.Kind.{Kind}
 use Rattle.lines.specs.declared.Kind.the-variants.{Process, SourceStream, Heat, WasteGas, Power, BoughtPrecursor, OwnGood, Unknown}
 use Rattle.sheet.specs.Limits.{Limits}
 use Rattle.sheet.specs.Kinds.{Rule, _to_, exactly, methodRules, processNumber, rules}
-use Rattle.sheet.specs.Refusals.{notNumber, outOfRange, saysDash}
+use Rattle.sheet.specs.Refusals.{notNumber, outOfRange}
 use Rattle.sheet.specs.Verdict.{Check, check, refused, firstOf, numberOf, fieldChecks}
-use Rattle.sheet.specs.Code.{orElse, wordNumber, wordsNumber, InRange, FitsBy, Fitting}
-use Rattle.sheet.proofs.Rows.{by-method, few-rules}
+use Rattle.sheet.specs.Code.{orElse, wordNumber, wordsNumber}
+use Rattle.sheet.proofs.Rows.{by-method}
 
 -- ---- the words of the first eight fields
 

@@ -9,11 +9,11 @@ use lib.Dec.{eqb, leb}
 use lib.ListN.{length, getD}
 use Rattle.decimal.proofs.Bools.{never, or-neither}
 use Rattle.lines.specs.Lines.{Line}
-use Rattle.lines.specs.Records.{Field, Record, recordOf, letter, field, numberAt, is}
+use Rattle.lines.specs.Records.{Field, Record, recordOf, letter, field, is}
 use Rattle.lines.specs.declared.Kind.{Kind}
 use Rattle.lines.specs.declared.Kind.the-variants.{Process, SourceStream, Heat, WasteGas, Power, BoughtPrecursor, OwnGood, Unknown}
 use Rattle.sheet.specs.Limits.{Limits}
-use Rattle.sheet.specs.Kinds.{Rule, exactly, processNumber, rules, rulesOf}
+use Rattle.sheet.specs.Kinds.{Rule, exactly, processNumber, rules}
 use Rattle.sheet.specs.Refusals.{anyOf, sumOf, process, from, to, outputIn, takenIn, hasProcess}
 use Rattle.sheet.specs.Verdict.{accepted, firstOf, lineChecks}
 use Rattle.sheet.proofs.First.{accepted-passes}
@@ -97,7 +97,9 @@ module _ (limits : Limits) where
 
       next : is Process (recordOf l) ≡ true → (process (recordOf l) ≡ suc (length above)) × (processes ≡ length above)
       next e =
-          let both = or-neither (not (eqb (process (recordOf l)) (suc (length above)))) (anyOf (λ q. not (is Process q)) above) (sym (ap (λ (t : Bool). t && (not (eqb (process (recordOf l)) (suc (length above))) || anyOf (λ q. not (is Process q)) above)) e) ∙ fine .next) in (
+          let others : Bool = anyOf (λ q. not (is Process q)) above in
+          let turn : Bool = not (eqb (process (recordOf l)) (suc (length above))) in
+          let both = or-neither turn others (sym (ap (λ (t : Bool). t && (turn || others)) e) ∙ fine .next) in (
             eqb-true _ _ (not-false (eqb (process (recordOf l)) (suc (length above))) (both .0)),
             eqb-true _ _ (not-false (eqb processes (length above)) (sym (h .others) ∙ both .1)),
           )

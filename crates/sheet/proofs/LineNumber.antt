@@ -1,32 +1,31 @@
 -- The number that the code gives a line is the number of the verdict. Assumes nothing.
 use mathlib.Core.Path.{_≡_, refl, sym, ap, ap₂, _∙_}
-use mathlib.Core.Logic.{_↔_}
 use mathlib.Core.Bool.{Bool, true, false, cond, _&&_, _||_, not}
 use mathlib.Core.List.{List, [], _∷_, _++_}
 use Prim.Native.Nat.{ℕ, zero, suc, _+_, _-_, _≤_, _<_}
 use native.Mathlib.Nat.{lt-of-not-le}
 use native.Mathlib.Decide.{decLe}
 use native.Mathlib.Omega.{arith}
-use borrow.Author.Tests.{eq-eqb, ne-eqb, eqb-true, eqb-false, leb-true, ltb-true, ltb-false, le-leb, lt-leb, lt-ltb, le-ltb, not-false}
+use borrow.Author.Tests.{eq-eqb, ne-eqb, eqb-true, leb-true, ltb-true, ltb-false, le-leb, lt-leb, lt-ltb, le-ltb, not-false}
 use lib.Dec.{eqb, leb, ltb}
 use lib.ListN.{length, getD, drop, length-drop}
-use Rattle.decimal.proofs.Bools.{never, and-both, or-neither}
+use Rattle.decimal.proofs.Bools.{and-both, or-neither}
 use Rattle.lines.specs.Lines.{LF, Line}
 use Rattle.lines.specs.Records.{Field, Record, recordOf, letter, field, numberAt, is}
-use Rattle.lines.specs.Words.{CAP, word, words, lineLength, lineAt, ReadAt}
+use Rattle.lines.specs.Words.{CAP, words, lineLength, lineAt, ReadAt}
 use Rattle.lines.specs.declared.LineRead.{LineRead}
 use Rattle.lines.specs.declared.Kind.{Kind}
 use Rattle.lines.specs.declared.Kind.the-variants.{Process, SourceStream, Heat, WasteGas, Power, BoughtPrecursor, OwnGood, Unknown}
 use Rattle.sheet.specs.Limits.{Limits}
-use Rattle.sheet.specs.Kinds.{Rule, rules, rulesOf, namedFields}
-use Rattle.sheet.specs.Refusals.{anyOf, sumOf, process, from, to, outputIn, takenIn, hasProcess, tooManyLines, lacksLF, unknownKind, wrongFieldCount, processNotNext, missingProcess, endsOf, endsNotAllowed, saysDash, noStandardValue, secondOfPair, outputExceeded}
-use Rattle.sheet.specs.Verdict.{Check, check, Verdict, accepted, refused, firstOf, numberOf, fieldChecks, lineChecks}
-use Rattle.sheet.specs.Code.{orElse, wordsNumber, wordRules, fieldsNumber, shapeNumber, notNext, missing, noStandard, second, exceeded, orderNumber, lineNumber}
+use Rattle.sheet.specs.Kinds.{Rule, rulesOf, namedFields}
+use Rattle.sheet.specs.Refusals.{anyOf, sumOf, from, to, outputIn, takenIn, hasProcess, tooManyLines, lacksLF, unknownKind, processNotNext, missingProcess, endsOf, endsNotAllowed, noStandardValue, secondOfPair, outputExceeded}
+use Rattle.sheet.specs.Verdict.{Check, check, accepted, refused, firstOf, numberOf, fieldChecks, lineChecks}
+use Rattle.sheet.specs.Code.{orElse, wordsNumber, fieldsNumber, shapeNumber, notNext, missing, noStandard, second, exceeded, orderNumber, lineNumber}
 use Rattle.sheet.proofs.First.{All}
-use Rattle.sheet.proofs.Rows.{few-rules, else-first, else-next}
+use Rattle.sheet.proofs.Rows.{few-rules, else-first}
 use Rattle.sheet.proofs.FieldWords.{word-at, allCapped, early, tidy-rules, rules-same, number-cons, fields-number}
 use Rattle.sheet.proofs.Shaped.{early-word, dash-word}
-use Rattle.sheet.proofs.Held.{Held, GoodHeld, GoodAsked}
+use Rattle.sheet.proofs.Held.{Held, GoodAsked}
 
 -- ---- 8 to 13
 
@@ -117,7 +116,8 @@ module _ (limits : Limits) (small : limits .processes < CAP) (above : List Recor
           )
       go Unknown e m n = (refl, refl)
 
-  order-number : chain (processNotNext limits above r) (missingProcess limits above r) (endsNotAllowed limits r) (noStandardValue limits r) (secondOfPair limits above r) (outputExceeded limits above r)
+  order-number : chain (processNotNext limits above r) (missingProcess limits above r) (endsNotAllowed limits r)
+      (noStandardValue limits r) (secondOfPair limits above r) (outputExceeded limits above r)
       ≡ orderNumber limits (r .kind) (words (r .said)) (length above) processes output taken pair
   unfolding orderNumber
   order-number =

@@ -3,11 +3,11 @@ use mathlib.Core.Path.{_≡_, refl, sym, ap, ap₂, _∙_, subst}
 use mathlib.Core.Logic.{_⊎_, inl, inr}
 use mathlib.Core.Bool.{Bool, true, false, cond, _&&_, not}
 use mathlib.Core.List.{List, [], _∷_}
-use Prim.Native.Nat.{ℕ, zero, suc, _+_, min, _≤_, _<_}
+use Prim.Native.Nat.{ℕ, zero, suc, _+_, min, _<_}
 use native.Mathlib.Nat.{lt-of-not-le}
 use native.Mathlib.Decide.{decLe}
 use native.Mathlib.Omega.{arith}
-use borrow.Author.Tests.{eq-eqb, ne-eqb, eqb-true, eqb-false, ltb-true, ltb-false, leb-true, not-true}
+use borrow.Author.Tests.{ne-eqb, eqb-true, eqb-false, ltb-true, ltb-false, leb-true, not-true}
 use lib.Dec.{eqb, leb, ltb}
 use lib.ListN.{length, getD, List·getD-eq-default}
 use Rattle.decimal.proofs.Bools.{and-both}
@@ -20,7 +20,7 @@ use Rattle.sheet.specs.Kinds.{Rule, exactly, rules, rulesOf}
 use Rattle.sheet.specs.Refusals.{tooManyLines, saysDash}
 use Rattle.sheet.specs.Code.{orElse, wordNumber, wordsNumber, wordRules, fieldsNumber, shapeNumber, InRange, FitsBy, Fitting}
 use Rattle.sheet.proofs.Rows.{few-rules}
-use Rattle.sheet.proofs.FieldWords.{word-at, word-past, capped, allCapped, early, tidy, tidy-rules, rules-same}
+use Rattle.sheet.proofs.FieldWords.{word-at, word-past, capped, allCapped, early, tidy-rules, rules-same}
 
 else-zero : (a b : ℕ) → orElse a b ≡ 0 → (a ≡ 0) × (b ≡ 0)
 else-zero a b h = go (eqb a 0) refl h

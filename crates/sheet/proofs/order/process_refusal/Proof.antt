@@ -1,11 +1,10 @@
-use Prim.Native.Nat.{ℕ, suc, _+_, _≤_, _<_}
+-- `process_refusal` meets its contract. Assumes nothing.
+use Prim.Native.Nat.{suc}
 use native.Mathlib.Omega.{arith}
-use borrow.Author.Tests.{eq-eqb, ne-eqb, lt-ltb, le-ltb, le-leb, lt-leb}
+use borrow.Author.Tests.{eq-eqb, ne-eqb}
 use borrow.Author.Needs.{needs}
 use Rattle.sheet.proofs.order.process_refusal.Statement.{statement}
 use Rattle.sheet.proofs.order.process_refusal.Tie as tie
-use Rattle.sheet.proofs.order.process_refusal.Reads as reads
-use Rattle.sheet.proofs.order.process_refusal.Lts as lts
 
 returns : tie.Need-returns
 returns c = simp (ne-eqb (c .before .args .n) (suc (c .before .args .above)) (λ e. omega arith))

@@ -1,10 +1,9 @@
+-- `refusal_number` meets its contract. Assumes nothing.
 use mathlib.Core.Path.{sym, ap}
 use Rattle.sheet.specs.Code.{refusalNumber}
 use borrow.Author.Needs.{needs}
 use Rattle.sheet.proofs.refusals.refusal_number.Statement.{statement}
 use Rattle.sheet.proofs.refusals.refusal_number.Tie as tie
-use Rattle.sheet.proofs.refusals.refusal_number.Reads as reads
-use Rattle.sheet.proofs.refusals.refusal_number.Lts as lts
 
 enum-told : tie.Need-enum-told
 enum-told c = search needs

@@ -1,3 +1,4 @@
+-- `rules_of` meets its contract: each row of the code is convertible with the rules of its kind in specs/Kinds. Assumes nothing.
 use mathlib.Core.Path.{sym, ap, _∙_}
 use Rattle.lines.specs.Records.{number}
 use Rattle.lines.specs.declared.Kind.{Kind}
@@ -7,9 +8,6 @@ use Rattle.sheet.specs.Code.{row}
 use borrow.Author.Needs.{needs}
 use Rattle.sheet.proofs.rules.rules_of.Statement.{statement}
 use Rattle.sheet.proofs.rules.rules_of.Tie as tie
-use Rattle.sheet.proofs.rules.rules_of.Reads as reads
-use Rattle.sheet.proofs.rules.rules_of.Lts as lts
-use Rattle.sheet.proofs.rules.stream_rules.Reads as stream-rules-reads
 
 enum-told : tie.Need-enum-told
 enum-told c = search needs

@@ -1,3 +1,4 @@
+-- `stream_rules` meets its contract: each row of the code is convertible with the rules of its method in specs/Kinds. Assumes nothing.
 use mathlib.Core.Path.{sym, ap}
 use Prim.Native.Nat.{ℕ}
 use borrow.Author.Tests.{ne-eqb}
@@ -9,8 +10,6 @@ use Rattle.sheet.specs.Code.{row}
 use Rattle.sheet.specs.declared.rules.Rules.{Rules}
 use Rattle.sheet.proofs.rules.stream_rules.Statement.{statement}
 use Rattle.sheet.proofs.rules.stream_rules.Tie as tie
-use Rattle.sheet.proofs.rules.stream_rules.Reads as reads
-use Rattle.sheet.proofs.rules.stream_rules.Lts as lts
 
 abbrev by-method : ℕ → Rules
 by-method m = row (rules limits SourceStream (number m))

@@ -1,9 +1,8 @@
+-- `field_refusal` meets its contract. Assumes nothing.
 use borrow.Author.Tests.{eq-eqb, ne-eqb, lt-ltb, le-ltb, le-leb, lt-leb}
 use Rattle.sheet.specs.Code.{wordNumber}
 use Rattle.sheet.proofs.shape.field_refusal.Statement.{statement}
 use Rattle.sheet.proofs.shape.field_refusal.Tie as tie
-use Rattle.sheet.proofs.shape.field_refusal.Reads as reads
-use Rattle.sheet.proofs.shape.field_refusal.Lts as lts
 
 returns : tie.Need-returns
 unfolding wordNumber

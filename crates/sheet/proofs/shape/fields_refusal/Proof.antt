@@ -1,26 +1,44 @@
+-- `fields_refusal` meets its contract. The loop's invariant: the fields that are left give the number that all of them give. Assumes nothing.
 use mathlib.Core.List.{List}
-use Rattle.sheet.specs.Code.{refusalNumber, orElse}
+use Rattle.sheet.specs.Code.{refusalNumber, orElse, fieldsNumber}
 use Rattle.sheet.specs.declared.rules.Rules.{Rules}
 use Rattle.sheet.specs.Limits.{limits}
 use borrow.Author.Needs.{needs}
-use Prim.Native.Nat.{ℕ, suc, _+_, _-_, _≤_, _<_}
+use Prim.Native.Nat.{ℕ, _+_, _-_, _≤_, _<_}
 use native.Mathlib.Omega.{arith}
-use borrow.Author.Tests.{eq-eqb, ne-eqb, lt-ltb, le-ltb, le-leb, lt-leb}
-use mathlib.Core.Path.{_≡_, refl, sym, ap, _∙_}
+use mathlib.Core.Path.{_≡_, sym, ap, _∙_}
 use Rattle.sheet.proofs.Rows.{rowNumber, row-step, row-none, row-few, fields-unknown, fields-count, fields-row, else-first, else-next}
 use Rattle.sheet.proofs.shape.fields_refusal.Statement.{statement}
 use Rattle.sheet.proofs.shape.fields_refusal.Tie as tie
-use Rattle.sheet.proofs.shape.fields_refusal.Reads as reads
-use Rattle.sheet.proofs.shape.fields_refusal.Lts as lts
-use Rattle.sheet.proofs.refusals.refusal_number.Reads as refusal-number-reads
-use Rattle.sheet.proofs.rules.rules_of.Reads as rules-of-reads
-use Rattle.sheet.proofs.shape.field_refusal.Reads as field-refusal-reads
 
 abbrev Inv-loop : tie.InvT-loop
 Inv-loop count words rules fields k₀ k = (fields ≤ 8) × (k ≤ fields) × (rowNumber rules words k (fields - k) ≡ rowNumber rules words 0 fields)
 
 abbrev μ-loop : tie.MeasureT-loop
 μ-loop count words rules fields k₀ k = fields - k
+
+-- the row of rules, and the number that is to be given
+module _ (c : tie.After-rules-of Inv-loop μ-loop) where
+  abbrev rules : Rules
+  rules = c .rules-of .result
+
+  abbrev words : List ℕ
+  words = c .before .before .args .words .now
+
+  abbrev number : ℕ
+  number = fieldsNumber limits (c .before .before .args .kind) (c .before .before .args .count) words
+
+  few : rules .count ≤ 8
+  few = row-few limits (c .before .before .args .kind) (c .before .before .args .count) words rules (c .rules-of .ensures)
+
+  unknown : rules .count ≡ 0 → 4 ≡ number
+  unknown z = sym (fields-unknown limits (c .before .before .args .kind) (c .before .before .args .count) words rules (c .rules-of .ensures) z)
+
+  other-count : (rules .count ≡ 0 → ⊥) → (c .before .before .args .count ≡ rules .count → ⊥) → 5 ≡ number
+  other-count n m = sym (fields-count limits (c .before .before .args .kind) (c .before .before .args .count) words rules (c .rules-of .ensures) n m)
+
+  by-row : (rules .count ≡ 0 → ⊥) → c .before .before .args .count ≡ rules .count → rowNumber rules words 0 (rules .count) ≡ number
+  by-row n m = sym (fields-row limits (c .before .before .args .kind) (c .before .before .args .count) words rules (c .rules-of .ensures) n m)
 
 element-copy-out-rules-of : tie.Need-element-copy-out-rules-of Inv-loop μ-loop
 element-copy-out-rules-of c = search needs
@@ -29,13 +47,16 @@ rules-of-requires : tie.Need-rules-of-requires Inv-loop μ-loop
 rules-of-requires c κs = search needs
 
 returns : tie.Need-returns Inv-loop μ-loop
-returns c = sym (fields-unknown limits (c .before .before .before .args .kind) (c .before .before .before .args .count) (c .before .before .before .args .words .now) (c .before .rules-of .result) (c .before .rules-of .ensures) (c .if1 .taken))
+returns c = unknown (c .before) (c .if1 .taken)
 
 returns-2 : tie.Need-returns-2 Inv-loop μ-loop
-returns-2 c = sym (fields-count limits (c .before .before .before .before .args .kind) (c .before .before .before .before .args .count) (c .before .before .before .before .args .words .now) (c .before .before .rules-of .result) (c .before .before .rules-of .ensures) (c .before .if1 .left) (c .if2 .taken))
+returns-2 c = other-count (c .before .before) (c .before .if1 .left) (c .if2 .taken)
 
 loop-holds : tie.Need-loop-holds Inv-loop μ-loop
-loop-holds c = (row-few limits (c .before .before .before .before .args .kind) (c .before .before .before .before .args .count) (c .before .before .before .before .args .words .now) (c .before .before .rules-of .result) (c .before .before .rules-of .ensures), omega arith, ap (rowNumber (c .before .before .rules-of .result) (c .before .before .before .before .args .words .now) 0) (let e : c .before .before .rules-of .result .count - 0 ≡ c .before .before .rules-of .result .count = omega arith in e))
+loop-holds c =
+    let row = c .before .before in
+    let e : rules row .count - 0 ≡ rules row .count = omega arith in
+    (few row, omega arith, ap (rowNumber (rules row) (words row) 0) e)
 
 mul-field-refusal : tie.Need-mul-field-refusal Inv-loop μ-loop
 mul-field-refusal c = search needs
@@ -69,23 +90,22 @@ module _ (c : tie.After-field-refusal Inv-loop μ-loop) where
   abbrev k : ℕ
   k = c .before .before .before .before .before .before .loop .k
 
-  abbrev rules : Rules
-  rules = c .before .before .before .before .before .before .before .before .before .rules-of .result
+  abbrev row : tie.After-rules-of Inv-loop μ-loop
+  row = c .before .before .before .before .before .before .before .before .before
 
-  abbrev words : List ℕ
-  words = c .before .before .before .before .before .before .before .before .before .before .before .args .words .now
+  abbrev left : ℕ
+  left = rowNumber (rules row) (words row) (k + 1) (rules row .count - (k + 1))
 
-  judged : rowNumber rules words k (rules .count - k) ≡ orElse (refusalNumber (c .field-refusal .result)) (rowNumber rules words (k + 1) (rules .count - (k + 1)))
+  judged : rowNumber (rules row) (words row) k (rules row .count - k) ≡ orElse (refusalNumber (c .field-refusal .result)) left
   judged =
-      let h : k < rules .count = omega arith in
-      row-step rules words k (rules .count) h
-      ∙ ap (λ (n : ℕ). orElse n (rowNumber rules words (k + 1) (rules .count - (k + 1)))) (sym (c .field-refusal .ensures))
+      let h : k < rules row .count = omega arith in
+      row-step (rules row) (words row) k (rules row .count) h ∙ ap (λ (n : ℕ). orElse n left) (sym (c .field-refusal .ensures))
 
 returns-3 : tie.Need-returns-3 Inv-loop μ-loop
 returns-3 c =
-    let d = c .before .before in
-    sym (else-first _ _ (λ z. c .if3 .taken (c .before .refusal-number .ensures ∙ z))) ∙ sym (judged d) ∙ c .before .before .before .before .before .before .before .before .loop .inv .2
-    ∙ sym (fields-row limits (c .before .before .before .before .before .before .before .before .before .before .before .before .before .args .kind) (c .before .before .before .before .before .before .before .before .before .before .before .before .before .args .count) (c .before .before .before .before .before .before .before .before .before .before .before .before .before .args .words .now) (c .before .before .before .before .before .before .before .before .before .before .before .rules-of .result) (c .before .before .before .before .before .before .before .before .before .before .before .rules-of .ensures) (c .before .before .before .before .before .before .before .before .before .before .if1 .left) (c .before .before .before .before .before .before .before .before .before .if2 .left))
+    let at = c .before .before .before .before .before .before .before .before in
+    sym (else-first _ _ (λ z. c .if3 .taken (c .before .refusal-number .ensures ∙ z))) ∙ sym (judged (c .before .before)) ∙ at .loop .inv .2
+    ∙ by-row (at .before .before .before) (at .before .before .if1 .left) (at .before .if2 .left)
 
 add-k : tie.Need-add-k Inv-loop μ-loop
 add-k c = search needs
@@ -100,9 +120,11 @@ loop-again c =
 
 returns-4 : tie.Need-returns-4 Inv-loop μ-loop
 returns-4 c =
-    let v = c .before .loop .inv in
-    sym (row-none _ _ _ _ (let h : c .before .before .before .before .rules-of .result .count ≤ c .before .loop .k = omega arith in h)) ∙ v .2
-    ∙ sym (fields-row limits (c .before .before .before .before .before .before .args .kind) (c .before .before .before .before .before .before .args .count) (c .before .before .before .before .before .before .args .words .now) (c .before .before .before .before .rules-of .result) (c .before .before .before .before .rules-of .ensures) (c .before .before .before .if1 .left) (c .before .before .if2 .left))
+    let at = c .before in
+    let row = at .before .before .before in
+    let h : rules row .count ≤ at .loop .k = omega arith in
+    sym (row-none (rules row) (words row) (at .loop .k) (rules row .count) h) ∙ at .loop .inv .2
+    ∙ by-row row (at .before .before .if1 .left) (at .before .if2 .left)
 
 pub fields-refusal-spec : {M : Type 1} → statement M
 fields-refusal-spec =

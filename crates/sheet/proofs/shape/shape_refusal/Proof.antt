@@ -1,14 +1,11 @@
-use Prim.Native.Nat.{ℕ, suc, _+_, _≤_, _<_}
+-- `shape_refusal` meets its contract. Assumes nothing.
+use Prim.Native.Nat.{suc}
 use native.Mathlib.Omega.{arith}
-use borrow.Author.Tests.{eq-eqb, ne-eqb, lt-ltb, le-ltb, le-leb, lt-leb}
-use mathlib.Core.Path.{_≡_, refl, sym, ap, _∙_}
+use borrow.Author.Tests.{eq-eqb, ne-eqb, lt-ltb, le-ltb}
 use Rattle.sheet.specs.Code.{shapeNumber}
 use borrow.Author.Needs.{needs}
 use Rattle.sheet.proofs.shape.shape_refusal.Statement.{statement}
 use Rattle.sheet.proofs.shape.shape_refusal.Tie as tie
-use Rattle.sheet.proofs.shape.shape_refusal.Reads as reads
-use Rattle.sheet.proofs.shape.shape_refusal.Lts as lts
-use Rattle.sheet.proofs.shape.fields_refusal.Reads as fields-refusal-reads
 
 returns : tie.Need-returns
 unfolding shapeNumber
