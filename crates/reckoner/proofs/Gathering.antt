@@ -1,13 +1,19 @@
 -- What is held once all lines are read: document 01's figures over the sheet's records. Assumes nothing.
 use mathlib.Core.Path.{_≡_, refl, sym, ap, _∙_}
+use mathlib.Core.Logic.{_⊎_, inl, inr}
+use mathlib.Core.Bool.{true, _&&_}
 use mathlib.Core.List.{List, [], map}
 use Prim.Native.Nat.{ℕ, _+_, _*_, _≤_, _<_}
 use native.Mathlib.Omega.{arith}
+use borrow.Author.Tests.{eqb-true, le-leb}
+use lib.Dec.{eqb}
 use lib.ListN.{length}
-use Rattle.lines.specs.Records.{Record, recordsOf}
+use Rattle.decimal.proofs.Bools.{or-either}
+use Rattle.lines.specs.declared.Kind.the-variants.{Process}
+use Rattle.lines.specs.Records.{Record, recordsOf, is}
 use Rattle.lines.proofs.NextLine.{lines-done}
 use Rattle.ledger.proofs.Bounds.{within-more}
-use Rattle.sheet.specs.Refusals.{sumOf}
+use Rattle.sheet.specs.Refusals.{sumOf, anyOf, process, outputIn}
 use Rattle.reckoner.specs.Attribution.{indirect}
 use Rattle.reckoner.specs.Reckoning.{processCount, output}
 use Rattle.reckoner.specs.Gathered.{Gathered}
@@ -36,6 +42,16 @@ module _ (sheet : List ℕ) (at : ℕ) (w : Works) (kilos : List ℕ) (rd : Read
   goods : HeldGoods (recordsOf sheet) (w .count) (w .outputs) (w .taken) kilos
   goods = goods-same (rd .above) (recordsOf sheet) same (w .count) (w .outputs) (w .taken) kilos (rd .standing .goods)
 
+  made : (i : ℕ) → 1 ≤ i → i ≤ w .count → 1 ≤ sumOf (outputIn i) (recordsOf sheet)
+  made i one last =
+      let s : sumOf (outputIn i) (rd .above) ≡ sumOf (outputIn i) (recordsOf sheet) = same (outputIn i) in
+      go (or-either (eqb i 0) (anyOf (λ r. is Process r && eqb i (process r)) (rd .above)) (rd .standing .held .named i ∙ le-leb i (w .count) last)) s
+    where
+      go : (eqb i 0 ≡ true) ⊎ (anyOf (λ r. is Process r && eqb i (process r)) (rd .above) ≡ true)
+          → sumOf (outputIn i) (rd .above) ≡ sumOf (outputIn i) (recordsOf sheet) → 1 ≤ sumOf (outputIn i) (recordsOf sheet)
+      go (inl e) s = absurd (omega (arith, eqb-true i 0 e))
+      go (inr e) s = omega (arith, rd .standing .made i e)
+
   pub gathered : Gathered (recordsOf sheet) w kilos
   unfolding output indirect
   gathered = record {
@@ -49,6 +65,7 @@ module _ (sheet : List ℕ) (at : ℕ) (w : Works) (kilos : List ℕ) (rd : Read
     bought-indirect-at = λ i. ledger .bought-indirect i ∙ sym (figures i rs .indirect);
     entered-is = ledger .entered ∙ sym (entered-is rs);
     uncredited-is = ledger .uncredited ∙ sym (figures 0 rs .lost);
+    made = made;
     outputs-small = λ i. omega (arith, goods .output-at i, goods .outputs-small i, few);
     room = within-more (omega (arith, few)) (ledger .within);
     into = omega (arith, into-pools-le (processCount rs) rs, ledger .into, few);

@@ -23,7 +23,7 @@ use Rattle.ledger.specs.Ledger.{Room, Small, booked}
 use Rattle.ledger.proofs.Bounds.{within-more}
 use Rattle.sheet.specs.Limits.{Limits, limits}
 use Rattle.sheet.specs.Kinds.{Rule, rulesOf}
-use Rattle.sheet.specs.Refusals.{anyOf, sumOf, process, from, to}
+use Rattle.sheet.specs.Refusals.{anyOf, sumOf, process, from, to, outputIn}
 use Rattle.sheet.specs.Verdict.{accepted, firstOf, fieldChecks, lineChecks}
 use Rattle.sheet.proofs.First.{All, Passes, accepted-passes, passes-accepted}
 use Rattle.sheet.proofs.Passed.{Fine, line-fine, in-range}
@@ -43,11 +43,16 @@ use Rattle.reckoner.proofs.Noted.{after-process, after-good, after-othe
 abbrev pub Once : List Record → Type 0
 Once above = (f t : ℕ) → eqb (kilosBetween above f t) 0 ≡ not (anyOf (λ q. is OwnGood q && (eqb (from q) f && eqb (to q) t)) above)
 
+-- a process with a P line above has an output
+abbrev pub Made : List Record → Type 0
+Made above = (p : ℕ) → anyOf (λ r. is Process r && eqb p (process r)) above ≡ true → 1 ≤ sumOf (outputIn p) above
+
 pub record Standing (above : List Record) (w : Works) (kilos : List ℕ) : Type 0 where
   pub lines : w .lines ≡ length above
   pub few : length above ≤ 4096
   pub held : Held limits above (w .count)
   pub goods : HeldGoods above (w .count) (w .outputs) (w .taken) kilos
+  pub made : Made above
   pub once : Once above
   pub ledger : HeldLedger above (w .ledger)
 
@@ -85,11 +90,22 @@ standing-start w kilos l c g h = record {
   few = omega arith;
   held = rw c (held-none limits);
   goods = g;
+  made = λ p e. absurd (never e);
   once = λ f t. refl;
   ledger = h;
 }
 
--- ---- one G line more
+-- ---- one P line more, and one G line more
+
+made-next : (above : List Record) (r : Record) → Made above → (is Process r ≡ true → 1 ≤ numberAt r 1) → Made (r ∷ above)
+unfolding anyOf sumOf
+made-next above r h some p = go (is Process r) refl (eqb p (process r))
+  where
+    go : (b : Bool) → is Process r ≡ b → (c : Bool) → ((b && c) || anyOf (λ q. is Process q && eqb p (process q)) above) ≡ true
+        → 1 ≤ cond (b && c) (numberAt r 1) 0 + sumOf (outputIn p) above
+    go false e c t = omega (arith, h p t)
+    go true e false t = omega (arith, h p t)
+    go true e true t = omega (arith, some e)
 
 once-next : (above : List Record) (r : Record) → Once above → (is OwnGood r ≡ true → 1 ≤ numberAt r 2) → Once (r ∷ above)
 unfolding kilosBetween sumOf anyOf kilosOf
@@ -176,6 +192,7 @@ module _ (sheet : List ℕ) (start : ℕ) (l : LineRead) (read : ReadAt sheet st
           few = few-next;
           held = rw p at (held-next limits above (lineAt sheet start) (w .count) (s .held) ok);
           goods = held-other above (w .count) (w .outputs) (w .taken) kilos (s .goods) r p g;
+          made = made-next above r (s .made) (λ e. absurd (never (sym p ∙ e)));
           once = once-next above r (s .once) (λ e. absurd (never (sym g ∙ e)));
           ledger = booked-next;
         }
@@ -194,6 +211,7 @@ module _ (sheet : List ℕ) (start : ℕ) (l : LineRead) (read : ReadAt sheet st
           few = few-next;
           held = rw add-one (rw p at (held-next limits above (lineAt sheet start) (w .count) (s .held) ok));
           goods = held-process above (w .count) (w .outputs) (w .taken) kilos (s .goods) r p g (omega (arith, at0, n .0 .high)) (omega (arith, at1, n .1 .high));
+          made = made-next above r (s .made) (λ z. omega (arith, at1, n .1 .low));
           once = once-next above r (s .once) (λ z. absurd (never (sym g ∙ z)));
           ledger = booked-next;
         }
@@ -213,6 +231,7 @@ module _ (sheet : List ℕ) (start : ℕ) (l : LineRead) (read : ReadAt sheet st
           few = few-next;
           held = rw p at (held-next limits above (lineAt sheet start) (w .count) (s .held) ok);
           goods = held-good above (w .count) (w .outputs) (w .taken) kilos (s .goods) r p g (omega (arith, at0, n .0 .high)) (omega (arith, at1, n .1 .high)) (omega (arith, at2, n .2 .high));
+          made = made-next above r (s .made) (λ z. absurd (never (sym p ∙ z)));
           once = once-next above r (s .once) (λ z. omega (arith, at2, n .2 .low));
           ledger = booked-next;
         }

@@ -28,6 +28,7 @@ pub record Gathered (rs : List Record) (w : Works) (kilos : List ℕ) : Type 0 w
   pub bought-indirect-at : (i : ℕ) → getD (w .ledger .«bought_indirect») i 0 ≡ boughtIndirect rs i
   pub entered-is : w .ledger .entered ≡ entered rs
   pub uncredited-is : w .ledger .uncredited ≡ uncredited rs
+  pub made : (i : ℕ) → 1 ≤ i → i ≤ w .count → 1 ≤ output rs i
   -- the bounds that keep every sum inside 63 bits
   pub outputs-small : (i : ℕ) → output rs i ≤ 2 ^ 61
   pub room : Room (w .ledger)
