@@ -16,3 +16,4 @@ pub mod Noted
 pub mod Standing
 pub mod AllLines
 pub mod Gathering
+pub mod Ready

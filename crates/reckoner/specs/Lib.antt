@@ -5,4 +5,5 @@ pub mod Reckoning
 pub mod Verdict
 pub mod Works
 pub mod Gathered
+pub mod Reckoned
 pub mod Cases

@@ -2,3 +2,87 @@
 pub mod judging; // a line that was read, judged under the lines above it
 pub mod noting; // one line more
 pub mod reading; // a sheet read from the top
+
+ghost use mathlib.Core.Path.{_≡_};
+ghost use Prim.Native.Nat.{_<_};
+ghost use lib.IntN.{pos, _+ℤ_};
+ghost use Rattle.goods.specs.Settling.{SIZE};
+ghost use Rattle.reckoner.specs.Reckoned.{Reckoned, refusedBy, largeRows, largeTotals};
+use closing::Closing;
+use closing::close;
+use closing::too_large;
+use goods::PAIRS;
+use goods::SIZE;
+use quantity::Grams;
+use quantity::SignedGrams;
+use reading::read_lines;
+use sheet::refusals::BYTES;
+use sheet::refusals::Refusal;
+use sheet::refusals::refusal_number;
+
+// The reckoning of a sheet: the refusal and its line, or the figures of each process by its number and the totals.
+pub struct Reckoning {
+    pub refusal: Refusal,
+    pub line: usize,
+    pub count: usize,
+    pub outputs: [u64; SIZE],
+    pub figures: Closing,
+    pub entered: SignedGrams,
+    pub uncredited: Grams,
+}
+
+// Row 15: whole-gram figures stay below 2^63, and so the least i64 is too large.
+const WHOLE_GRAMS: u64 = 9223372036854775808;
+
+const LEAST: i64 = -9223372036854775808;
+
+// A refused sheet has no figures.
+fn refused_by(refusal: Refusal, line: usize) -> Reckoning
+    ensures { λ r. ⌜ r ≡ refusedBy refusal line ⌝ }
+{
+    let figures = Closing {
+        direct: [0; SIZE],
+        indirect: [0; SIZE],
+        raised: [0; SIZE],
+        direct_pools: [0; SIZE],
+        indirect_pools: [0; SIZE],
+        direct_lefts: [0; SIZE],
+        indirect_lefts: [0; SIZE],
+        left: Grams(0),
+        total_raised: Grams(0),
+    };
+    Reckoning {
+        refusal: refusal,
+        line: line,
+        count: 0,
+        outputs: [0; SIZE],
+        figures: figures,
+        entered: SignedGrams(0),
+        uncredited: Grams(0),
+    }
+}
+
+// Row 15 over the figures of processes.
+fn large_rows(f: Closing, count: usize) -> bool
+    requires { ⌜ count < SIZE ⌝ }
+    ensures { λ r. ⌜ r ≡ largeRows f count ⌝ }
+{
+    let direct = f.direct;
+    let indirect = f.indirect;
+    let raised = f.raised;
+    let direct_pools = f.direct_pools;
+    let indirect_pools = f.indirect_pools;
+    let direct_lefts = f.direct_lefts;
+    let indirect_lefts = f.indirect_lefts;
+    let attributed = too_large(direct, count) | too_large(indirect, count) | too_large(raised, count);
+    let pooled = too_large(direct_pools, count) | too_large(indirect_pools, count);
+    let left = too_large(direct_lefts, count) | too_large(indirect_lefts, count);
+    attributed | pooled | left
+}
+
+// Row 15 over the totals.
+fn large_totals(left: Grams, entered: SignedGrams, raised: Grams, uncredited: Grams) -> bool
+    ensures { λ r. ⌜ r ≡ largeTotals (left .0) (entered .0) (raised .0) (uncredited .0) ⌝ }
+{
+    (WHOLE_GRAMS <= left.0) | (entered.0 <= LEAST) | (WHOLE_GRAMS <= raised.0) | (WHOLE_GRAMS <= uncredited.0)
+}

@@ -1,0 +1,85 @@
+-- An accepted sheet is ready to be closed, no figure of it reaches 2^63, and the closing's figures are document 01's. Assumes nothing.
+use mathlib.Core.Path.{_≡_, refl, sym, ap, ap₂, _∙_}
+use mathlib.Core.Bool.{Bool, true, false, _||_}
+use mathlib.Core.List.{List, [], _∷_, _++_}
+use Prim.Native.Nat.{ℕ, zero, suc, _+_, _*_, _^_, _≤_, _<_}
+use native.Mathlib.Nat.{le-refl, le-trans}
+use native.Mathlib.Omega.{arith}
+use borrow.Author.Tests.{lt-leb}
+use lib.Dec.{leb}
+use lib.IntN.{ℤ, pos, natAbs}
+use lib.ListN.{length, getD}
+use Rattle.lines.specs.Records.{Record}
+use Rattle.sheet.specs.Limits.{limits}
+use Rattle.sheet.proofs.First.{All}
+use Rattle.goods.specs.Sums.{sumTo}
+use Rattle.goods.specs.Goods.{poolOf, leftOf}
+use Rattle.goods.specs.Settling.{SIZE, figures, pairs, Settleable}
+use Rattle.goods.proofs.Sums.{sum-ext, sum-mono, sum-suc, sum-cong}
+use Rattle.goods.proofs.Pools.{pool-le, left-is}
+use Rattle.goods.proofs.Same.{pool-cong, left-cong}
+use Rattle.ledger.specs.Raising.{raisedToZero, gramsAdded}
+use Rattle.closing.specs.Closing.{Ready, ownDirect, ownIndirect, directOf, raisedOf}
+use Rattle.reckoner.specs.Attribution.{balance, direct, indirect, raised, boughtDirect, boughtIndirect}
+use Rattle.reckoner.specs.Reckoning.{processCount, output, kilosBetween, totalRaised}
+use Rattle.reckoner.specs.Gathered.{Gathered}
+use Rattle.reckoner.specs.declared.judging.Works.{Works}
+use Rattle.reckoner.proofs.Entries.{forward}
+use Rattle.reckoner.proofs.Valid.{Accepted}
+
+module _ (rs : List Record) (w : Works) (kilos : List ℕ) (g : Gathered rs w kilos) (ok : Accepted rs) where
+  abbrev n : ℕ
+  n = processCount rs
+
+  -- attribution and bought grams are document 01's
+  own-direct-is : (k : ℕ) → ownDirect (w .ledger) k ≡ direct rs k + boughtDirect rs k
+  unfolding direct
+  own-direct-is k = ap₂ (λ (x y : ℕ). x + y) (ap raisedToZero (g .balance-at k)) (g .bought-direct-at k)
+
+  own-indirect-is : (k : ℕ) → ownIndirect (w .ledger) k ≡ indirect rs k + boughtIndirect rs k
+  own-indirect-is k = ap₂ (λ (x y : ℕ). x + y) (g .indirect-at k) (g .bought-indirect-at k)
+
+  raised-is : (k : ℕ) → raisedOf (w .ledger) k ≡ raised rs k
+  unfolding raised
+  raised-is k = ap gramsAdded (g .balance-at k)
+
+  count-in : (j : ℕ) → j ≤ w .count → j < SIZE
+  count-in j h = omega (arith, g .few)
+
+  pairs-is : (i j : ℕ) → j ≤ w .count → pairs kilos i j ≡ kilosBetween rs i j
+  pairs-is i j h = g .kilos-at i j (count-in j h)
+
+  settleable : (own : ℕ → ℕ) → sumTo (w .count) own < 2 ^ 63 → Settleable (w .count) (figures (w .outputs)) (pairs kilos) own
+  settleable own small = record {
+    some = λ i l h. rw (g .output-at i) (g .made i l h);
+    small = λ i l h. omega (arith, g .output-at i, g .outputs-small i);
+    ahead = λ i j l h m. pairs-is i j (omega arith) ∙ forward n rs (ok .valid) i j h;
+    within = λ i l h. omega (
+      arith,
+      sum-cong (w .count) (pairs kilos i) (kilosBetween rs i) (λ k a b. pairs-is i k b),
+      g .output-at i,
+      ap (λ (m : ℕ). sumTo m (kilosBetween rs i)) (g .count),
+      ok .within i,
+    );
+    total = small;
+  }
+
+  own-direct-sum : sumTo (w .count) (ownDirect (w .ledger)) ≡ sumTo n (λ k. direct rs k + boughtDirect rs k)
+  own-direct-sum = rw (g .count) (sum-ext n _ _ own-direct-is)
+
+  own-indirect-sum : sumTo (w .count) (ownIndirect (w .ledger)) ≡ sumTo n (λ k. indirect rs k + boughtIndirect rs k)
+  own-indirect-sum = rw (g .count) (sum-ext n _ _ own-indirect-is)
+
+  raised-sum : sumTo (w .count) (raisedOf (w .ledger)) ≡ totalRaised rs
+  unfolding totalRaised
+  raised-sum = rw (g .count) (sum-ext n _ _ raised-is)
+
+  pub ready : Ready (w .ledger) (w .outputs) kilos (w .count)
+  ready = record {
+    few = g .few;
+    balances = g .room .balances;
+    direct = settleable (ownDirect (w .ledger)) (omega (arith, own-direct-sum, g .into));
+    indirect = settleable (ownIndirect (w .ledger)) (omega (arith, own-indirect-sum, g .into));
+    own = omega (arith, own-direct-sum, own-indirect-sum, g .into);
+    raised = omega (arith, raised-sum, g .raised);
+  }

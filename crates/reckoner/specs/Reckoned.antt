@@ -1,0 +1,91 @@
+-- What the reckoner promises: verdict and line, and of an accepted sheet document 01's figures, field by field.
+use mathlib.Core.Path.{_≡_}
+use mathlib.Core.Bool.{Bool, _||_}
+use mathlib.Core.List.{List}
+use Prim.Native.Nat.{ℕ, _^_, _≤_}
+use lib.Dec.{leb}
+use lib.IntN.{ℤ, pos, negsuc}
+use lib.Signed.{leZ}
+use lib.ListN.{getD, length, replicate}
+use Rattle.lines.specs.Records.{Record, recordsOf}
+use Rattle.goods.specs.Settling.{SIZE, figures}
+use Rattle.sheet.specs.Limits.{limits}
+use Rattle.sheet.specs.Verdict.{firstOf, numberOf, lineOf}
+use Rattle.sheet.specs.Code.{refusalNumber}
+use Rattle.sheet.specs.declared.refusals.Refusal.{Refusal}
+use Rattle.closing.specs.Closing.{anyLarge}
+use Rattle.closing.specs.declared.Closing.{Closing}
+use Rattle.reckoner.specs.Attribution.{direct, indirect, raised}
+use Rattle.reckoner.specs.Reckoning.{processCount, output, directPool, indirectPool, directLeft, indirectLeft, totalLeft, entered, totalRaised, uncredited}
+use Rattle.reckoner.specs.Verdict.{reckonerChecks}
+use Rattle.reckoner.specs.declared.Reckoning.{Reckoning}
+
+-- the array has the figure of each process at its number
+pub record Column (count : ℕ) (figure : ℕ → ℕ) (a : List ℕ) : Type 0 where
+  pub size : length a ≡ SIZE
+  pub at : (k : ℕ) → 1 ≤ k → k ≤ count → getD a k 0 ≡ figure k
+
+-- the figures of an accepted sheet
+pub record FiguresOf (rs : List Record) (r : Reckoning) : Type 0 where
+  pub counted : r .count ≡ processCount rs
+  pub few : r .count ≤ limits .processes
+  pub made : (k : ℕ) → 1 ≤ k → k ≤ r .count → 1 ≤ output rs k
+  pub outputs : Column (r .count) (output rs) (r .outputs)
+  pub directs : Column (r .count) (direct rs) (r .figures .direct)
+  pub indirects : Column (r .count) (indirect rs) (r .figures .indirect)
+  pub raiseds : Column (r .count) (raised rs) (r .figures .raised)
+  pub direct-pools : Column (r .count) (directPool rs) (r .figures .«direct_pools»)
+  pub indirect-pools : Column (r .count) (indirectPool rs) (r .figures .«indirect_pools»)
+  pub direct-lefts : Column (r .count) (directLeft rs) (r .figures .«direct_lefts»)
+  pub indirect-lefts : Column (r .count) (indirectLeft rs) (r .figures .«indirect_lefts»)
+  pub left-is : r .figures .left .0 ≡ totalLeft rs
+  pub entered-is : r .entered .0 ≡ entered rs
+  pub raised-is : r .figures .«total_raised» .0 ≡ totalRaised rs
+  pub uncredited-is : r .uncredited .0 ≡ uncredited rs
+
+-- a refused sheet has no figures
+abbrev pub none : List ℕ
+none = replicate SIZE 0
+
+abbrev pub nothing : Closing
+nothing = record {
+  direct = none;
+  indirect = none;
+  raised = none;
+  «direct_pools» = none;
+  «indirect_pools» = none;
+  «direct_lefts» = none;
+  «indirect_lefts» = none;
+  left = record { 0 = 0 };
+  «total_raised» = record { 0 = 0 };
+}
+
+abbrev pub refusedBy : Refusal → (line : ℕ) → Reckoning
+refusedBy refusal line = record {
+  refusal = refusal;
+  line = line;
+  count = 0;
+  outputs = none;
+  figures = nothing;
+  entered = record { 0 = pos 0 };
+  uncredited = record { 0 = 0 };
+}
+
+-- number and line, and the figures or none
+pub record Reckoned (sheet : List ℕ) (r : Reckoning) : Type 0 where
+  pub number : refusalNumber (r .refusal) ≡ numberOf (firstOf (reckonerChecks limits sheet))
+  pub line-is : r .line ≡ lineOf (firstOf (reckonerChecks limits sheet))
+  pub accepted : refusalNumber (r .refusal) ≡ 0 → FiguresOf (recordsOf sheet) r
+  pub refused : (refusalNumber (r .refusal) ≡ 0 → ⊥) → r ≡ refusedBy (r .refusal) (r .line)
+
+-- 15, over what the code holds: the figures of processes 1 .. count, and the totals
+abbrev pub largeRows : Closing → (count : ℕ) → Bool
+largeRows c count =
+    (((anyLarge count (figures (c .direct)) || anyLarge count (figures (c .indirect))) || anyLarge count (figures (c .raised)))
+    || (anyLarge count (figures (c .«direct_pools»)) || anyLarge count (figures (c .«indirect_pools»))))
+    || (anyLarge count (figures (c .«direct_lefts»)) || anyLarge count (figures (c .«indirect_lefts»)))
+
+-- an i64 is 2^63 or more in size only where it is the least of them
+abbrev pub largeTotals : (left : ℕ) → (entered : ℤ) → (raised uncredited : ℕ) → Bool
+largeTotals left entered raised uncredited =
+    ((leb (2 ^ 63) left || leZ entered (negsuc 9223372036854775807)) || leb (2 ^ 63) raised) || leb (2 ^ 63) uncredited
