@@ -36,7 +36,7 @@ use Rattle.reckoner.proofs.Standing.{Standing, standing-start, standing
 
 -- ---- the first of two lists of checks
 
-first-rest : (a b : List Check) → firstOf a ≡ accepted → firstOf (a ++ b) ≡ firstOf b
+pub first-rest : (a b : List Check) → firstOf a ≡ accepted → firstOf (a ++ b) ≡ firstOf b
 unfolding firstOf
 first-rest [] b h = refl
 first-rest (c ∷ a) b h = go (c .applies) refl (λ p. first-rest a b p) h
@@ -46,7 +46,7 @@ first-rest (c ∷ a) b h = go (c .applies) refl (λ p. first-rest a b p) h
     go true e ih h = absurd (let z : _≡_ {A = ℕ} 0 1 = cc in omega arith)
     go false e ih h = ih h
 
-first-here : (a b : List Check) (n k : ℕ) → firstOf a ≡ refused n k → firstOf (a ++ b) ≡ refused n k
+pub first-here : (a b : List Check) (n k : ℕ) → firstOf a ≡ refused n k → firstOf (a ++ b) ≡ refused n k
 unfolding firstOf
 first-here [] b n k h = absurd (let z : _≡_ {A = ℕ} 0 1 = cc in omega arith)
 first-here (c ∷ a) b n k h = go (c .applies) (λ p. first-here a b n k p) h

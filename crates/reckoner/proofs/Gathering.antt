@@ -57,6 +57,7 @@ module _ (sheet : List ℕ) (at : ℕ) (w : Works) (kilos : List ℕ) (rd : Read
   gathered = record {
     count = goods .counted;
     few = rd .standing .held .most;
+    outputs-size = goods .outputs-size;
     output-at = goods .output-at;
     kilos-at = goods .kilos-at;
     balance-at = λ i. ledger .balances i ∙ sym (balance-is rs i);

@@ -17,3 +17,6 @@ pub mod Standing
 pub mod AllLines
 pub mod Gathering
 pub mod Ready
+pub mod Fits
+pub mod Figured
+pub mod Answer

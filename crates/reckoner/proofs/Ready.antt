@@ -32,21 +32,21 @@ module _ (rs : List Record) (w : Works) (kilos : List ℕ) (g : Gathered rs w ki
   n = processCount rs
 
   -- attribution and bought grams are document 01's
-  own-direct-is : (k : ℕ) → ownDirect (w .ledger) k ≡ direct rs k + boughtDirect rs k
+  pub own-direct-is : (k : ℕ) → ownDirect (w .ledger) k ≡ direct rs k + boughtDirect rs k
   unfolding direct
   own-direct-is k = ap₂ (λ (x y : ℕ). x + y) (ap raisedToZero (g .balance-at k)) (g .bought-direct-at k)
 
-  own-indirect-is : (k : ℕ) → ownIndirect (w .ledger) k ≡ indirect rs k + boughtIndirect rs k
+  pub own-indirect-is : (k : ℕ) → ownIndirect (w .ledger) k ≡ indirect rs k + boughtIndirect rs k
   own-indirect-is k = ap₂ (λ (x y : ℕ). x + y) (g .indirect-at k) (g .bought-indirect-at k)
 
-  raised-is : (k : ℕ) → raisedOf (w .ledger) k ≡ raised rs k
+  pub raised-is : (k : ℕ) → raisedOf (w .ledger) k ≡ raised rs k
   unfolding raised
   raised-is k = ap gramsAdded (g .balance-at k)
 
   count-in : (j : ℕ) → j ≤ w .count → j < SIZE
   count-in j h = omega (arith, g .few)
 
-  pairs-is : (i j : ℕ) → j ≤ w .count → pairs kilos i j ≡ kilosBetween rs i j
+  pub pairs-is : (i j : ℕ) → j ≤ w .count → pairs kilos i j ≡ kilosBetween rs i j
   pairs-is i j h = g .kilos-at i j (count-in j h)
 
   settleable : (own : ℕ → ℕ) → sumTo (w .count) own < 2 ^ 63 → Settleable (w .count) (figures (w .outputs)) (pairs kilos) own
@@ -70,7 +70,7 @@ module _ (rs : List Record) (w : Works) (kilos : List ℕ) (g : Gathered rs w ki
   own-indirect-sum : sumTo (w .count) (ownIndirect (w .ledger)) ≡ sumTo n (λ k. indirect rs k + boughtIndirect rs k)
   own-indirect-sum = rw (g .count) (sum-ext n _ _ own-indirect-is)
 
-  raised-sum : sumTo (w .count) (raisedOf (w .ledger)) ≡ totalRaised rs
+  pub raised-sum : sumTo (w .count) (raisedOf (w .ledger)) ≡ totalRaised rs
   unfolding totalRaised
   raised-sum = rw (g .count) (sum-ext n _ _ raised-is)
 

@@ -10,7 +10,7 @@ use Rattle.goods.specs.Settling.{SIZE, PAIRS}
 use Rattle.goods.specs.Sums.{sumTo}
 use Rattle.ledger.specs.Ledger.{Room}
 use Rattle.sheet.specs.Limits.{limits}
-use Rattle.sheet.specs.Verdict.{firstOf, linesChecks, numberOf, lineOf}
+use Rattle.sheet.specs.Verdict.{accepted, firstOf, linesChecks, numberOf, lineOf}
 use Rattle.sheet.specs.Code.{refusalNumber}
 use Rattle.reckoner.specs.Attribution.{balance, direct, indirect, boughtDirect, boughtIndirect}
 use Rattle.reckoner.specs.Reckoning.{processCount, output, kilosBetween, entered, totalRaised, uncredited}
@@ -20,6 +20,7 @@ use Rattle.reckoner.specs.declared.reading.Read.{Read}
 pub record Gathered (rs : List Record) (w : Works) (kilos : List ℕ) : Type 0 where
   pub count : w .count ≡ processCount rs
   pub few : w .count ≤ limits .processes
+  pub outputs-size : length (w .outputs) ≡ SIZE
   pub output-at : (i : ℕ) → getD (w .outputs) i 0 ≡ output rs i
   pub kilos-at : (i j : ℕ) → j < SIZE → getD kilos (i * SIZE + j) 0 ≡ kilosBetween rs i j
   pub balance-at : (i : ℕ) → getD (w .ledger .balances) i (pos 0) ≡ balance rs i
@@ -39,6 +40,7 @@ pub record Gathered (rs : List Record) (w : Works) (kilos : List ℕ) : Type 0 w
 pub record ReadOf (sheet kilos : List ℕ) (r : Read) : Type 0 where
   pub number : refusalNumber (r .refusal) ≡ numberOf (firstOf (linesChecks limits [] (linesOf sheet)))
   pub line : r .line ≡ lineOf (firstOf (linesChecks limits [] (linesOf sheet)))
+  pub passed : refusalNumber (r .refusal) ≡ 0 → firstOf (linesChecks limits [] (linesOf sheet)) ≡ accepted
   pub gathered : refusalNumber (r .refusal) ≡ 0 → Gathered (recordsOf sheet) (r .works) kilos
 
 abbrev pub NoKilos : List ℕ → Type 0

@@ -13,11 +13,13 @@ use Rattle.sheet.specs.Limits.{limits}
 use Rattle.sheet.specs.Verdict.{firstOf, numberOf, lineOf}
 use Rattle.sheet.specs.Code.{refusalNumber}
 use Rattle.sheet.specs.declared.refusals.Refusal.{Refusal}
-use Rattle.closing.specs.Closing.{anyLarge}
+use Rattle.sheet.specs.declared.refusals.Refusal.the-variants.{Accepted}
+use Rattle.closing.specs.Closing.{anyLarge, Closed}
 use Rattle.closing.specs.declared.Closing.{Closing}
 use Rattle.reckoner.specs.Attribution.{direct, indirect, raised}
 use Rattle.reckoner.specs.Reckoning.{processCount, output, directPool, indirectPool, directLeft, indirectLeft, totalLeft, entered, totalRaised, uncredited}
 use Rattle.reckoner.specs.Verdict.{reckonerChecks}
+use Rattle.reckoner.specs.declared.judging.Works.{Works}
 use Rattle.reckoner.specs.declared.Reckoning.{Reckoning}
 
 -- the array has the figure of each process at its number
@@ -89,3 +91,22 @@ largeRows c count =
 abbrev pub largeTotals : (left : ℕ) → (entered : ℤ) → (raised uncredited : ℕ) → Bool
 largeTotals left entered raised uncredited =
     ((leb (2 ^ 63) left || leZ entered (negsuc 9223372036854775807)) || leb (2 ^ 63) raised) || leb (2 ^ 63) uncredited
+
+-- an accepted sheet, closed
+abbrev pub acceptedAs : Works → Closing → Reckoning
+acceptedAs w c = record {
+  refusal = Accepted;
+  line = 0;
+  count = w .count;
+  outputs = w .outputs;
+  figures = c;
+  entered = record { 0 = w .ledger .entered };
+  uncredited = record { 0 = w .ledger .uncredited };
+}
+
+abbrev pub large : Reckoning → Bool
+large r = largeRows (r .figures) (r .count) || largeTotals (r .figures .left .0) (r .entered .0) (r .figures .«total_raised» .0) (r .uncredited .0)
+
+pub record ClosedAs (w : Works) (kilos : List ℕ) (r : Reckoning) : Type 0 where
+  pub is : r ≡ acceptedAs w (r .figures)
+  pub closed : Closed (w .ledger) (w .outputs) kilos (w .count) (r .figures)

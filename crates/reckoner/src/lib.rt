@@ -7,7 +7,9 @@ ghost use mathlib.Core.Path.{_≡_};
 ghost use Prim.Native.Nat.{_<_};
 ghost use lib.IntN.{pos, _+ℤ_};
 ghost use Rattle.goods.specs.Settling.{SIZE};
-ghost use Rattle.reckoner.specs.Reckoned.{Reckoned, refusedBy, largeRows, largeTotals};
+ghost use Rattle.closing.specs.Closing.{Ready};
+ghost use Rattle.reckoner.specs.Reckoned.{Reckoned, refusedBy, largeRows, largeTotals, large, ClosedAs};
+use judging::Works;
 use closing::Closing;
 use closing::close;
 use closing::too_large;
@@ -85,4 +87,61 @@ fn large_totals(left: Grams, entered: SignedGrams, raised: Grams, uncredited: Gr
     ensures { λ r. ⌜ r ≡ largeTotals (left .0) (entered .0) (raised .0) (uncredited .0) ⌝ }
 {
     (WHOLE_GRAMS <= left.0) | (entered.0 <= LEAST) | (WHOLE_GRAMS <= raised.0) | (WHOLE_GRAMS <= uncredited.0)
+}
+
+// The figures of a works whose lines are all noted.
+fn figures_of(works: Works, kilos: &[u64; PAIRS]) -> Reckoning
+    requires { ⌜ Ready (works .ledger) (works .outputs) (now kilos) (works .count) ⌝ }
+    ensures { λ r. ⌜ ClosedAs works (now (kilos .entry)) r ⌝ }
+{
+    let ledger = works.ledger;
+    let outputs = works.outputs;
+    let figures = close(ledger, outputs, kilos, works.count);
+    Reckoning {
+        refusal: Refusal::Accepted,
+        line: 0,
+        count: works.count,
+        outputs: outputs,
+        figures: figures,
+        entered: SignedGrams(ledger.entered),
+        uncredited: Grams(ledger.uncredited),
+    }
+}
+
+// Row 15: whether a whole-gram figure is 2^63 or more.
+fn is_large(r: Reckoning) -> bool
+    requires { ⌜ r .count < SIZE ⌝ }
+    ensures { λ b. ⌜ b ≡ large r ⌝ }
+{
+    let figures = r.figures;
+    let left = figures.left;
+    let entered = r.entered;
+    let raised = figures.total_raised;
+    let uncredited = r.uncredited;
+    large_rows(figures, r.count) | large_totals(left, entered, raised, uncredited)
+}
+
+// The reckoning of a sheet.
+pub fn reckon(s: &[u8]) -> Reckoning
+    ensures { λ r. ⌜ Reckoned (now (s .entry)) r ⌝ }
+    ensures sum { λ r. ⌜ pos (r .figures .left .0) ≡ r .entered .0 +ℤ pos (r .figures .«total_raised» .0) +ℤ pos (r .uncredited .0) ⌝ }
+{
+    if BYTES < s.len() {
+        return refused_by(Refusal::TooManyBytes, 0);
+    }
+    if s.len() == 0 {
+        return refused_by(Refusal::EmptySheet, 0);
+    }
+    let mut kilos: [u64; PAIRS] = [0; PAIRS];
+    let read = read_lines(s, &mut kilos);
+    let refusal = read.refusal;
+    if refusal_number(refusal) != 0 {
+        return refused_by(refusal, read.line);
+    }
+    let works = read.works;
+    let r = figures_of(works, &kilos);
+    if is_large(r) {
+        return refused_by(Refusal::FigureTooLarge, 0);
+    }
+    r
 }

@@ -48,7 +48,7 @@ returns c =
     let given = c .before .before .before .line-refusal .ensures in
     let number = c .before .before .refusal-number .ensures in
     let v = refused-here _ _ _ _ rd (c .before .before .before .before .before .before .loop-test .taken) _ (c .before .before .before .before .before .read-line .ensures .0) (λ z. c .before .if1 .taken (number ∙ given ∙ z)) in
-    record { number = given ∙ sym (ap numberOf v); line = sym (ap lineOf v); gathered = λ z. absurd (c .before .if1 .taken (number ∙ z)) }
+    record { number = given ∙ sym (ap numberOf v); line = sym (ap lineOf v); passed = λ z. absurd (c .before .if1 .taken (number ∙ z)); gathered = λ z. absurd (c .before .if1 .taken (number ∙ z)) }
 
 with-line-requires : tie.Need-with-line-requires Inv-loop μ-loop
 with-line-requires c κs =
@@ -79,7 +79,7 @@ returns-2 : tie.Need-returns-2 Inv-loop μ-loop
 returns-2 c =
     let rd = c .before .loop .inv in
     let v = reading-verdict _ _ _ _ rd (c .loop-test .left) in
-    record { number = sym (ap numberOf v); line = sym (ap lineOf v); gathered = λ z. gathered _ _ _ _ rd (c .loop-test .left) }
+    record { number = sym (ap numberOf v); line = sym (ap lineOf v); passed = λ z. v; gathered = λ z. gathered _ _ _ _ rd (c .loop-test .left) }
 
 pub read-lines-spec : {M : Type 1} → statement M
 read-lines-spec =

@@ -1,0 +1,119 @@
+-- The answers of the reckoner: the verdict of rows 1 to 15, from what the code finds. Assumes nothing.
+use mathlib.Core.Path.{_≡_, refl, sym, ap, ap₂, _∙_}
+use mathlib.Core.Bool.{Bool, true, false, cond, _||_}
+use mathlib.Core.List.{List, [], _∷_, _++_}
+use Prim.Native.Nat.{ℕ, _+_, _^_, _≤_, _<_}
+use native.Mathlib.Omega.{arith}
+use borrow.Author.Tests.{lt-ltb, le-ltb, eq-eqb, ne-eqb, lt-leb}
+use lib.Dec.{eqb, ltb, leb}
+use lib.IntN.{ℤ, pos, negsuc, natAbs, _+ℤ_}
+use lib.Signed.{leZ}
+use lib.ListN.{length}
+use Rattle.lines.specs.Lines.{linesOf}
+use Rattle.lines.specs.Records.{Record, recordsOf}
+use Rattle.sheet.specs.Limits.{limits}
+use Rattle.sheet.specs.Verdict.{Check, check, Verdict, accepted, refused, firstOf, linesChecks, sheetChecks, numberOf, lineOf}
+use Rattle.sheet.specs.Code.{refusalNumber}
+use Rattle.sheet.specs.declared.refusals.Refusal.{Refusal}
+use Rattle.sheet.proofs.First.{accepted-passes, passes-accepted}
+use Rattle.sheet.proofs.Passed.{FineSheet, lines-fine}
+use Rattle.closing.specs.Closing.{Closed, anyLarge}
+use Rattle.closing.specs.declared.Closing.{Closing}
+use Rattle.goods.specs.Settling.{figures}
+use Rattle.reckoner.specs.Reckoning.{reckoning}
+use Rattle.reckoner.specs.Verdict.{figureTooLarge, reckonerChecks}
+use Rattle.reckoner.specs.Gathered.{Gathered, ReadOf}
+use Rattle.reckoner.specs.Reckoned.{FiguresOf, Reckoned, refusedBy, acceptedAs, largeRows, largeTotals, large}
+use Rattle.reckoner.specs.declared.judging.Works.{Works}
+use Rattle.reckoner.specs.declared.reading.Read.{Read}
+use Rattle.reckoner.specs.declared.Reckoning.{Reckoning}
+use Rattle.reckoner.proofs.Valid.{Accepted, sheet-accepted}
+use Rattle.reckoner.proofs.Works.{left-is-entered-raised-uncredited}
+use Rattle.reckoner.proofs.AllLines.{first-rest, first-here}
+use Rattle.reckoner.proofs.Fits.{none-large, row-below, left-total, entered-total, uncredited-total, no-figure-too-large}
+use Rattle.reckoner.proofs.Figured.{figures-is}
+
+-- ---- the verdict of rows 1 to 15
+
+module _ (sheet : List ℕ) where
+  abbrev last : List Check
+  last = check 15 0 (figureTooLarge (reckoning (recordsOf sheet))) ∷ []
+
+  too-many : limits .bytes < length sheet → firstOf (reckonerChecks limits sheet) ≡ refused 1 0
+  unfolding reckonerChecks sheetChecks firstOf
+  too-many h = rw (lt-ltb (limits .bytes) (length sheet) h)
+
+  none-at-all : length sheet ≤ limits .bytes → length sheet ≡ 0 → firstOf (reckonerChecks limits sheet) ≡ refused 14 0
+  unfolding reckonerChecks sheetChecks firstOf
+  none-at-all h e = rw (le-ltb (limits .bytes) (length sheet) h, eq-eqb (length sheet) 0 e)
+
+  by-lines : length sheet ≤ limits .bytes → (length sheet ≡ 0 → ⊥) → firstOf (reckonerChecks limits sheet) ≡ firstOf (linesChecks limits [] (linesOf sheet) ++ last)
+  unfolding reckonerChecks sheetChecks firstOf
+  by-lines h e = rw (le-ltb (limits .bytes) (length sheet) h, ne-eqb (length sheet) 0 e)
+
+  -- a verdict of a number is refused by it
+  numbered : (v : Verdict) → (numberOf v ≡ 0 → ⊥) → v ≡ refused (numberOf v) (lineOf v)
+  numbered accepted h = absurd (h refl)
+  numbered (refused n k) h = refl
+
+  -- ---- an answer that refuses
+
+  refused-answer : (refusal : Refusal) (line : ℕ) → firstOf (reckonerChecks limits sheet) ≡ refused (refusalNumber refusal) line
+      → (refusalNumber refusal ≡ 0 → ⊥) → Reckoned sheet (refusedBy refusal line)
+  refused-answer refusal line v some = record {
+    number = sym (ap numberOf v);
+    line-is = sym (ap lineOf v);
+    accepted = λ z. absurd (some z);
+    refused = λ n. refl;
+  }
+
+  pub refused-bytes : (r : Refusal) → refusalNumber r ≡ 1 → limits .bytes < length sheet → Reckoned sheet (refusedBy r 0)
+  refused-bytes r e h = refused-answer r 0 (too-many h ∙ ap (λ (n : ℕ). refused n 0) (sym e)) (λ (z : refusalNumber r ≡ 0). omega arith)
+
+  pub refused-empty : (r : Refusal) → refusalNumber r ≡ 14 → length sheet ≤ limits .bytes → length sheet ≡ 0 → Reckoned sheet (refusedBy r 0)
+  refused-empty r e h z = refused-answer r 0 (none-at-all h z ∙ ap (λ (n : ℕ). refused n 0) (sym e)) (λ (z : refusalNumber r ≡ 0). omega arith)
+
+  module _ (short : length sheet ≤ limits .bytes) (some : length sheet ≡ 0 → ⊥) (kilos : List ℕ) (read : Read) (of : ReadOf sheet kilos read) where
+    pub refused-line : (refusalNumber (read .refusal) ≡ 0 → ⊥) → Reckoned sheet (refusedBy (read .refusal) (read .line))
+    refused-line h =
+        let v : Verdict = firstOf (linesChecks limits [] (linesOf sheet)) in
+        refused-answer (read .refusal) (read .line)
+        (by-lines short some ∙ first-here (linesChecks limits [] (linesOf sheet)) last (refusalNumber (read .refusal)) (read .line)
+        (numbered v (λ z. h (of .number ∙ z)) ∙ ap₂ refused (sym (of .number)) (sym (of .line)))) h
+
+    -- ---- an answer that accepts
+
+    module _ (zero : refusalNumber (read .refusal) ≡ 0) where
+      pub ok : Accepted (recordsOf sheet)
+      ok = sheet-accepted limits sheet record {
+        short = short;
+        some = some;
+        lines = lines-fine limits [] (linesOf sheet) (accepted-passes _ (of .passed zero));
+      }
+
+      all-pass : firstOf (reckonerChecks limits sheet) ≡ accepted
+      unfolding firstOf
+      all-pass =
+          by-lines short some ∙ first-rest (linesChecks limits [] (linesOf sheet)) last (of .passed zero)
+          ∙ rw (no-figure-too-large (recordsOf sheet) ok (read .works) kilos (of .gathered zero))
+
+      module _ (c : Closing) (closed : Closed (read .works .ledger) (read .works .outputs) kilos (read .works .count) c) where
+        figured : FiguresOf (recordsOf sheet) (acceptedAs (read .works) c)
+        figured = figures-is (recordsOf sheet) (read .works) kilos (of .gathered zero) ok c closed
+
+        pub accepted-answer : Reckoned sheet (acceptedAs (read .works) c)
+        accepted-answer = record {
+          number = sym (ap numberOf all-pass);
+          line-is = sym (ap lineOf all-pass);
+          accepted = λ z. figured;
+          refused = λ n. absurd (n refl);
+        }
+
+        -- THE THIRD PROPERTY of the returned totals
+        pub accepted-sum : pos (c .left .0) ≡ read .works .ledger .entered +ℤ pos (c .«total_raised» .0) +ℤ pos (read .works .ledger .uncredited)
+        accepted-sum = rw (figured .left-is, figured .entered-is, figured .raised-is, figured .uncredited-is) (left-is-entered-raised-uncredited (recordsOf sheet) ok)
+
+        -- row 15 does not apply
+        below : {figure : ℕ → ℕ} {a : List ℕ} → Rattle.reckoner.specs.Reckoned.Column (read .works .count) figure a
+            → ((k : ℕ) → 1 ≤ k → k ≤ read .works .count → figure k < 2 ^ 63) → anyLarge (read .works .count) (figures a) ≡ false
+        below {a = a} col h = none-large (read .works .count) (figures a) (λ k l m. let e = col .at k l m in let f = h k l m in omega arith)
