@@ -30,7 +30,7 @@ use Rattle.reckoner.specs.declared.Reckoning.{Reckoning}
 use Rattle.reckoner.proofs.Valid.{Accepted, sheet-accepted}
 use Rattle.reckoner.proofs.Works.{left-is-entered-raised-uncredited}
 use Rattle.reckoner.proofs.AllLines.{first-rest, first-here}
-use Rattle.reckoner.proofs.Fits.{none-large, row-below, left-total, entered-total, uncredited-total, no-figure-too-large}
+use Rattle.reckoner.proofs.Fits.{none-large, RowBelow, row-below, left-total, entered-total, uncredited-total, no-figure-too-large}
 use Rattle.reckoner.proofs.Figured.{figures-is}
 
 -- ---- the verdict of rows 1 to 15
@@ -117,3 +117,32 @@ module _ (sheet : List ℕ) where
         below : {figure : ℕ → ℕ} {a : List ℕ} → Rattle.reckoner.specs.Reckoned.Column (read .works .count) figure a
             → ((k : ℕ) → 1 ≤ k → k ≤ read .works .count → figure k < 2 ^ 63) → anyLarge (read .works .count) (figures a) ≡ false
         below {a = a} col h = none-large (read .works .count) (figures a) (λ k l m. let e = col .at k l m in let f = h k l m in omega arith)
+
+        pub not-large : large (acceptedAs (read .works) c) ≡ false
+        not-large =
+            rw (
+              below (figured .directs) (λ k l m. row k l m .directs),
+              below (figured .indirects) (λ k l m. row k l m .indirects),
+              below (figured .raiseds) (λ k l m. row k l m .raiseds),
+              below (figured .direct-pools) (λ k l m. row k l m .direct-pools),
+              below (figured .indirect-pools) (λ k l m. row k l m .indirect-pools),
+              below (figured .direct-lefts) (λ k l m. row k l m .direct-lefts),
+              below (figured .indirect-lefts) (λ k l m. row k l m .indirect-lefts),
+            ) totals
+          where
+            row : (k : ℕ) → 1 ≤ k → k ≤ read .works .count → RowBelow (recordsOf sheet) ok (read .works) kilos (of .gathered zero) k
+            row k l m = row-below (recordsOf sheet) ok (read .works) kilos (of .gathered zero) k l (omega (arith, of .gathered zero .count))
+
+            least : (z : ℤ) → natAbs z ≤ 9200000000000000000 → leZ z (negsuc 9223372036854775807) ≡ false
+            least (pos n) h = refl
+            least (negsuc n) h = lt-leb 9223372036854775807 n (omega arith)
+
+            totals : largeTotals (c .left .0) (read .works .ledger .entered) (c .«total_raised» .0) (read .works .ledger .uncredited) ≡ false
+            totals =
+                let g = of .gathered zero in
+                rw (
+                  lt-leb (2 ^ 63) (c .left .0) (omega (arith, figured .left-is, left-total (recordsOf sheet) ok (read .works) kilos g)),
+                  least (read .works .ledger .entered) (g .room .entered),
+                  lt-leb (2 ^ 63) (c .«total_raised» .0) (omega (arith, figured .raised-is, g .raised)),
+                  lt-leb (2 ^ 63) (read .works .ledger .uncredited) (omega (arith, g .room .uncredited)),
+                )

@@ -62,8 +62,8 @@ module _ (rs : List Record) (w : Works) (kilos : List ℕ) (g : Gathered rs w ki
     direct-lefts = column (closed .direct-lefts) (λ k l m. left-same _ _ (own-direct-is rs w kilos g ok) k l m);
     indirect-lefts = column (closed .indirect-lefts) (λ k l m. left-same _ _ (own-indirect-is rs w kilos g ok) k l m);
     left-is = closed .left ∙ ap₂ (λ (x y : ℕ). x + y)
-      (sum-cong (w .count) _ _ (λ k l m. left-same _ _ (own-direct-is rs w kilos g ok) k l m) ∙ ap (λ (m : ℕ). sumTo m (directLeft rs)) (g .count))
-      (sum-cong (w .count) _ _ (λ k l m. left-same _ _ (own-indirect-is rs w kilos g ok) k l m) ∙ ap (λ (m : ℕ). sumTo m (indirectLeft rs)) (g .count));
+        (sum-cong (w .count) _ _ (λ k l m. left-same _ _ (own-direct-is rs w kilos g ok) k l m) ∙ ap (λ (m : ℕ). sumTo m (directLeft rs)) (g .count))
+        (sum-cong (w .count) _ _ (λ k l m. left-same _ _ (own-indirect-is rs w kilos g ok) k l m) ∙ ap (λ (m : ℕ). sumTo m (indirectLeft rs)) (g .count));
     entered-is = g .entered-is;
     raised-is = closed .total-raised ∙ raised-sum rs w kilos g ok;
     uncredited-is = g .uncredited-is;

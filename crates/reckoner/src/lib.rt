@@ -9,12 +9,12 @@ ghost use lib.IntN.{pos, _+ℤ_};
 ghost use Rattle.goods.specs.Settling.{SIZE};
 ghost use Rattle.closing.specs.Closing.{Ready};
 ghost use Rattle.reckoner.specs.Reckoned.{Reckoned, refusedBy, largeRows, largeTotals, large, ClosedAs};
-use judging::Works;
 use closing::Closing;
 use closing::close;
 use closing::too_large;
 use goods::PAIRS;
 use goods::SIZE;
+use judging::Works;
 use quantity::Grams;
 use quantity::SignedGrams;
 use reading::read_lines;
@@ -76,7 +76,9 @@ fn large_rows(f: Closing, count: usize) -> bool
     let indirect_pools = f.indirect_pools;
     let direct_lefts = f.direct_lefts;
     let indirect_lefts = f.indirect_lefts;
-    let attributed = too_large(direct, count) | too_large(indirect, count) | too_large(raised, count);
+    let attributed = too_large(direct, count)
+        | too_large(indirect, count)
+        | too_large(raised, count);
     let pooled = too_large(direct_pools, count) | too_large(indirect_pools, count);
     let left = too_large(direct_lefts, count) | too_large(indirect_lefts, count);
     attributed | pooled | left
@@ -86,7 +88,10 @@ fn large_rows(f: Closing, count: usize) -> bool
 fn large_totals(left: Grams, entered: SignedGrams, raised: Grams, uncredited: Grams) -> bool
     ensures { λ r. ⌜ r ≡ largeTotals (left .0) (entered .0) (raised .0) (uncredited .0) ⌝ }
 {
-    (WHOLE_GRAMS <= left.0) | (entered.0 <= LEAST) | (WHOLE_GRAMS <= raised.0) | (WHOLE_GRAMS <= uncredited.0)
+    (WHOLE_GRAMS <= left.0)
+        | (entered.0 <= LEAST)
+        | (WHOLE_GRAMS <= raised.0)
+        | (WHOLE_GRAMS <= uncredited.0)
 }
 
 // The figures of a works whose lines are all noted.

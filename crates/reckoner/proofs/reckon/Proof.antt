@@ -1,3 +1,9 @@
+use mathlib.Core.Path.{_≡_, refl, sym, ap, _∙_}
+use native.Mathlib.Omega.{arith}
+use Rattle.decimal.proofs.Bools.{never}
+use Rattle.reckoner.specs.Reckoned.{large}
+use Rattle.reckoner.proofs.Ready.{ready}
+use Rattle.reckoner.proofs.Answer.{refused-bytes, refused-empty, refused-line, ok, accepted-answer, accepted-sum, not-large}
 use borrow.Author.Needs.{needs}
 use Rattle.reckoner.proofs.reckon.Statement.{statement}
 use Rattle.reckoner.proofs.reckon.Tie as tie
@@ -13,13 +19,13 @@ refused-by-requires : tie.Need-refused-by-requires
 refused-by-requires c κs = search needs
 
 returns : tie.Need-returns
-returns c = ?
+returns c = rw (c .refused-by .ensures) (refused-bytes _ _ refl (c .before .if1 .taken), refl)
 
 refused-by-requires-2 : tie.Need-refused-by-requires-2
 refused-by-requires-2 c κs = search needs
 
 returns-2 : tie.Need-returns-2
-returns-2 c = ?
+returns-2 c = rw (c .refused-by2 .ensures) (refused-empty _ _ refl (c .before .before .if1 .left) (c .before .if2 .taken), refl)
 
 read-lines-requires : tie.Need-read-lines-requires
 read-lines-requires c κs = search needs
@@ -31,22 +37,49 @@ refused-by-requires-3 : tie.Need-refused-by-requires-3
 refused-by-requires-3 c κs = search needs
 
 returns-3 : tie.Need-returns-3
-returns-3 c = ?
+returns-3 c =
+    let of = c .before .before .before .read-lines .ensures in
+    let some = c .before .if3 .taken in
+    let number = c .before .before .refusal-number .ensures in
+    rw (c .refused-by3 .ensures) (refused-line _ (c .before .before .before .before .before .before .if1 .left) (c .before .before .before .before .before .if2 .left) _ _ of (λ z. some (number ∙ z)), refl)
 
 figures-of-requires : tie.Need-figures-of-requires
-figures-of-requires c κs = ?
+figures-of-requires c κs =
+    let of = c .before .before .before .before .read-lines .ensures in
+    let zero = sym (c .before .before .before .refusal-number .ensures) ∙ c .before .before .if3 .left in
+    let short = c .before .before .before .before .before .before .before .if1 .left in
+    let some = c .before .before .before .before .before .before .if2 .left in
+    ready _ _ _ (of .gathered zero) (ok _ short some _ _ of zero)
 
 is-large-requires : tie.Need-is-large-requires
-is-large-requires c κs = ?
+is-large-requires c κs =
+    let of = c .before .before .before .before .before .read-lines .ensures in
+    let zero = sym (c .before .before .before .before .refusal-number .ensures) ∙ c .before .before .before .if3 .left in
+    let short = c .before .before .before .before .before .before .before .before .if1 .left in
+    let some = c .before .before .before .before .before .before .before .if2 .left in
+    rw (c .figures-of .ensures .is) (omega (arith, of .gathered zero .few))
 
 refused-by-requires-4 : tie.Need-refused-by-requires-4
 refused-by-requires-4 c κs = search needs
 
 returns-4 : tie.Need-returns-4
-returns-4 c = ?
+returns-4 c =
+    let of = c .before .before .before .before .before .before .before .before .read-lines .ensures in
+    let zero = sym (c .before .before .before .before .before .before .before .refusal-number .ensures) ∙ c .before .before .before .before .before .before .if3 .left in
+    let short = c .before .before .before .before .before .before .before .before .before .before .before .if1 .left in
+    let some = c .before .before .before .before .before .before .before .before .before .before .if2 .left in
+    let closing = c .before .before .before .figures-of .ensures in
+    let large = sym (ap large (closing .is)) ∙ sym (c .before .before .is-large .ensures) ∙ c .before .if4 .taken in
+    absurd (never (sym (not-large _ short some _ _ of zero _ (closing .closed)) ∙ large))
 
 returns-5 : tie.Need-returns-5
-returns-5 c = ?
+returns-5 c =
+    let of = c .before .before .before .before .before .before .before .read-lines .ensures in
+    let zero = sym (c .before .before .before .before .before .before .refusal-number .ensures) ∙ c .before .before .before .before .before .if3 .left in
+    let short = c .before .before .before .before .before .before .before .before .before .before .if1 .left in
+    let some = c .before .before .before .before .before .before .before .before .before .if2 .left in
+    let closing = c .before .before .figures-of .ensures in
+    rw (closing .is) (accepted-answer _ short some _ _ of zero _ (closing .closed), accepted-sum _ short some _ _ of zero _ (closing .closed))
 
 pub reckon-spec : {M : Type 1} → statement M
 reckon-spec =
