@@ -1,0 +1,109 @@
+//! Carbon balance sheet of an installation, written from the scope paper
+//! (document 01) alone, for comparison with another implementation.
+//!
+//! The data goes through the modules in this order: `sheet` parts the bytes
+//! into lines and fields, `refusals` judges each line, `reckoning` takes the
+//! judged lines and settles them, `report` spells the figures.
+
+pub mod reckoning;
+pub mod refusals;
+pub mod report;
+pub mod samples;
+pub mod sheet;
+
+use reckoning::{Account, Works};
+use refusals::{Fault, Refusal, judge};
+use report::Report;
+use sheet::{Field, Fields, MOST_BYTES, MOST_FIELDS, MOST_LINES, read_line};
+
+pub use sheet::line_at;
+
+/// The answer to a sheet. An accepted sheet has number 0 and line 0; a refused
+/// one has length 0.
+#[derive(Clone, Copy, Debug, PartialEq, Eq)]
+pub struct Outcome {
+    pub number: u32,
+    pub line: u32,
+    pub length: usize,
+}
+
+/// Writes the report of the sheet at the start of the space. The space past
+/// the report, and on a refusal all of it, is left as it was.
+pub fn report_into(sheet: &[u8], space: &mut [u8]) -> Outcome {
+    let refusal = match whole_report(sheet) {
+        Ok(report) => {
+            let bytes = report.as_bytes();
+            if let Some(place) = space.get_mut(..bytes.len()) {
+                place.copy_from_slice(bytes);
+                return Outcome {
+                    number: 0,
+                    line: 0,
+                    length: bytes.len(),
+                };
+            }
+            on_no_line(Fault::SpaceTooShort)
+        }
+        Err(refusal) => refusal,
+    };
+    Outcome {
+        number: refusal.fault as u32,
+        line: refusal.line,
+        length: 0,
+    }
+}
+
+/// The report of the sheet, or the refusal's number and line.
+pub fn report(sheet: &[u8]) -> Result<Vec<u8>, (u32, u32)> {
+    match whole_report(sheet) {
+        Ok(report) => Ok(report.as_bytes().to_vec()),
+        Err(refusal) => Err((refusal.fault as u32, refusal.line)),
+    }
+}
+
+fn whole_report(sheet: &[u8]) -> Result<Report, Refusal> {
+    reckon(sheet).map(|account| Report::of(&account))
+}
+
+/// Reads, judges and reckons the whole sheet.
+pub fn reckon(sheet: &[u8]) -> Result<Account, Refusal> {
+    if sheet.len() > MOST_BYTES {
+        return Err(on_no_line(Fault::TooManyBytes));
+    }
+    if sheet.is_empty() {
+        return Err(on_no_line(Fault::EmptySheet));
+    }
+    let mut works = Works::default();
+    let mut fields = [Field::OTHER; MOST_FIELDS];
+    let mut rest = sheet;
+    let mut number = 0;
+    while !rest.is_empty() {
+        number += 1;
+        let length = take_line(rest, number, &mut fields, &mut works).map_err(|fault| Refusal {
+            fault,
+            line: number,
+        })?;
+        rest = &rest[length..];
+    }
+    works.settle().map_err(on_no_line)
+}
+
+/// Enters the line at the start of `rest` and gives its length. What `fields`
+/// holds before is of no account; it is lent so that it need not be moved.
+#[inline]
+fn take_line(
+    rest: &[u8],
+    number: u32,
+    fields: &mut Fields,
+    works: &mut Works,
+) -> Result<usize, Fault> {
+    if number > MOST_LINES {
+        return Err(Fault::TooManyLines);
+    }
+    let line = read_line(rest, fields)?;
+    works.enter(judge(line, fields, works)?);
+    Ok(line.length)
+}
+
+fn on_no_line(fault: Fault) -> Refusal {
+    Refusal { fault, line: 0 }
+}
