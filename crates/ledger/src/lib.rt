@@ -10,6 +10,7 @@ ghost use Rattle.ledger.specs.Raising.{gramsAdded, raisedToZero};
 ghost use Rattle.ledger.specs.Columns.{Column};
 use goods::SIZE;
 use quantity::Grams;
+use quantity::SignedGrams;
 
 // What one line moves, in grams. Process 0 is outside the works.
 pub struct Entry {
@@ -55,14 +56,15 @@ pub fn empty() -> Ledger
 }
 
 // A signed figure with grams added and grams taken off.
-fn changed(held: i64, more: Grams, less: Grams) -> i64
-    requires { ⌜ natAbs held ≤ 9210000000000000000 ⌝ }
+fn changed(held: SignedGrams, more: Grams, less: Grams) -> SignedGrams
+    requires { ⌜ natAbs (held .0) ≤ 9210000000000000000 ⌝ }
     requires { ⌜ (more .0 ≤ STEP) × (less .0 ≤ STEP) ⌝ }
-    ensures { λ r. ⌜ r ≡ held +ℤ pos (more .0) -ℤ pos (less .0) ⌝ }
+    ensures { λ r. ⌜ r .0 ≡ held .0 +ℤ pos (more .0) -ℤ pos (less .0) ⌝ }
 {
     let plus = more.0;
     let minus = less.0;
-    held + (plus as i64) - (minus as i64)
+    let grams = held.0;
+    SignedGrams(grams + (plus as i64) - (minus as i64))
 }
 
 // The balances with the charge added and the credit taken off.
@@ -76,11 +78,15 @@ fn with_balances(l: Ledger, e: Entry) -> Ledger
     let to = e.charged;
     let charge = e.charge;
     let held = next.balances[to];
-    next.balances[to] = changed(held, charge, none);
+    let charged = changed(SignedGrams(held), charge, none);
+    let more = charged.0;
+    next.balances[to] = more;
     let from = e.credited;
     let credit = e.credit;
     let kept = next.balances[from];
-    next.balances[from] = changed(kept, none, credit);
+    let credited = changed(SignedGrams(kept), none, credit);
+    let less = credited.0;
+    next.balances[from] = less;
     next
 }
 
@@ -93,7 +99,9 @@ pub fn book(l: Ledger, e: Entry) -> Ledger
     let mut next = with_balances(l, e);
     let entering = e.entering;
     let leaving = e.leaving;
-    next.entered = changed(next.entered, entering, leaving);
+    let entered = changed(SignedGrams(next.entered), entering, leaving);
+    let grams = entered.0;
+    next.entered = grams;
     let user = e.user;
     let buyer = e.buyer;
     next.indirect[user] += e.power.0;
@@ -115,19 +123,20 @@ pub struct RaisedAll {
     pub raised: [u64; SIZE],
 }
 
-pub fn raise(balance: i64) -> Raised
-    requires { ⌜ natAbs balance ≤ 9200000000000000000 ⌝ }
-    ensures direct { λ r. ⌜ r .direct .0 ≡ raisedToZero balance ⌝ }
-    ensures raised { λ r. ⌜ r .raised .0 ≡ gramsAdded balance ⌝ }
+pub fn raise(balance: SignedGrams) -> Raised
+    requires { ⌜ natAbs (balance .0) ≤ 9200000000000000000 ⌝ }
+    ensures direct { λ r. ⌜ r .direct .0 ≡ raisedToZero (balance .0) ⌝ }
+    ensures raised { λ r. ⌜ r .raised .0 ≡ gramsAdded (balance .0) ⌝ }
 {
-    if balance < 0 {
+    let grams = balance.0;
+    if grams < 0 {
         return Raised {
             direct: Grams(0),
-            raised: Grams((0 - balance) as u64),
+            raised: Grams((0 - grams) as u64),
         };
     }
     Raised {
-        direct: Grams(balance as u64),
+        direct: Grams(grams as u64),
         raised: Grams(0),
     }
 }
@@ -145,7 +154,7 @@ pub fn raise_all(balances: [i64; SIZE], count: usize) -> RaisedAll
     while done < count {
         let k = done + 1;
         let balance = balances[k];
-        let r = raise(balance);
+        let r = raise(SignedGrams(balance));
         direct[k] = r.direct.0;
         raised[k] = r.raised.0;
         done = k;

@@ -30,7 +30,7 @@ module _ (c : tie.Start) where
         c .pre .0 .entered,
       ))
 
-after-changed : (c : tie.After-changed) → c .changed .result ≡ outcome (c .before .before .before .before .before)
+after-changed : (c : tie.After-changed) → c .changed .result .0 ≡ outcome (c .before .before .before .before .before)
 unfolding balanced
 after-changed c =
     let k = c .before .before .before .before in
@@ -59,7 +59,7 @@ element-copy-out-next c = search needs
 add-next : tie.Need-add-next
 unfolding balanced
 add-next c =
-    let k = c .before .before .before .before .before .before in
+    let k = c .before .before .before .before .before .before .before in
     rw (k .with-balances .ensures) (added-fits (k .before .args .l .indirect) _ (k .before .args .e .power .0) (k .before .pre .0 .indirect) (omega (arith, k .before .pre .1 .into)))
 
 element-write-next : tie.Need-element-write-next
@@ -74,7 +74,7 @@ element-copy-out-next-2 c = search needs
 add-next-2 : tie.Need-add-next-2
 unfolding balanced
 add-next-2 c =
-    let k = c .before .before .before .before .before .before .before .before in
+    let k = c .before .before .before .before .before .before .before .before .before in
     rw (k .with-balances .ensures) (added-fits (k .before .args .l .«bought_direct») _ (k .before .args .e .direct .0) (k .before .pre .0 .bought-direct) (omega (arith, k .before .pre .1 .into)))
 
 element-write-next-2 : tie.Need-element-write-next-2
@@ -89,23 +89,23 @@ element-copy-out-next-3 c = search needs
 add-next-3 : tie.Need-add-next-3
 unfolding balanced
 add-next-3 c =
-    let k = c .before .before .before .before .before .before .before .before .before .before in
+    let k = c .before .before .before .before .before .before .before .before .before .before .before in
     rw (k .with-balances .ensures) (added-fits (k .before .args .l .«bought_indirect») _ (k .before .args .e .indirect .0) (k .before .pre .0 .bought-indirect) (omega (arith, k .before .pre .1 .into)))
 
 element-write-next-3 : tie.Need-element-write-next-3
-element-write-next-3 c = search needs
+element-write-next-3 c = c .before .before .before .before .before .before .before .before .before .before .before .before .pre .1 .buyer-in
 
 add-next-4 : tie.Need-add-next-4
 unfolding balanced
 add-next-4 c =
-    let k = c .before .before .before .before .before .before .before .before .before .before .before in
+    let k = c .before .before .before .before .before .before .before .before .before .before .before .before in
     rw (k .with-balances .ensures) (record { fits = omega (arith, k .before .pre .0 .uncredited, k .before .pre .1 .lost) })
 
 returns : tie.Need-returns
 unfolding balanced booked
 returns c =
-    let k = c .before .before .before .before .before .before .before .before .before .before .before in
-    simp (k .with-balances .ensures, after-changed (c .before .before .before .before .before .before .before), outcome-fits (k .before))
+    let k = c .before .before .before .before .before .before .before .before .before .before .before .before in
+    simp (k .with-balances .ensures, after-changed (c .before .before .before .before .before .before .before .before), outcome-fits (k .before))
 
 pub book-spec : {M : Type 1} → statement M
 book-spec =

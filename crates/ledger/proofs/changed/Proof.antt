@@ -13,12 +13,12 @@ use Rattle.ledger.proofs.changed.Tie as tie
 
 module _ (c : tie.Start) where
   abbrev sum : ℤ
-  sum = c .args .held +ℤ pos (c .args .more .0)
+  sum = c .args .held .0 +ℤ pos (c .args .more .0)
 
   abbrev outcome : ℤ
   outcome = sum -ℤ pos (c .args .less .0)
 
-  held : toZ w64 (ofZ w64 (c .args .held)) ≡ c .args .held
+  held : toZ w64 (ofZ w64 (c .args .held .0)) ≡ c .args .held .0
   held = kept _ (omega (arith, c .pre .0))
 
   more : toZ w64 (c .args .more .0) ≡ pos (c .args .more .0)
@@ -28,7 +28,7 @@ module _ (c : tie.Start) where
   less = toZ-pos w64 (omega (arith, c .pre .1 .1))
 
   sum-small : natAbs sum ≤ 9215000000000000000
-  sum-small = omega (arith, size-plus (c .args .held) (c .args .more .0), c .pre .0, c .pre .1 .0)
+  sum-small = omega (arith, size-plus (c .args .held .0) (c .args .more .0), c .pre .0, c .pre .1 .0)
 
   sum-fits : natAbs sum ≤ 9223372036854775807
   sum-fits = omega (arith, sum-small)
@@ -36,20 +36,20 @@ module _ (c : tie.Start) where
   outcome-fits : natAbs outcome ≤ 9223372036854775807
   outcome-fits = omega (arith, size-minus sum (c .args .less .0), sum-small, c .pre .1 .1)
 
-cast-result : tie.Need-cast-result
-cast-result c = search needs
+cast-t7 : tie.Need-cast-t7
+cast-t7 c = search needs
 
-add-result : tie.Need-add-result
-add-result c = simp (held c, more c) (sfits (sum-fits c))
+add-t8 : tie.Need-add-t8
+add-t8 c = simp (held (c .before), more (c .before)) (sfits (sum-fits (c .before)))
 
-cast-result-2 : tie.Need-cast-result-2
-cast-result-2 c = search needs
+cast-t9 : tie.Need-cast-t9
+cast-t9 c = search needs
 
-sub-result : tie.Need-sub-result
-sub-result c = simp (held c, more c, less c, kept (sum c) (sum-fits c)) (sfits (outcome-fits c))
+sub-t10 : tie.Need-sub-t10
+sub-t10 c = simp (held (c .before), more (c .before), less (c .before), kept (sum (c .before)) (sum-fits (c .before))) (sfits (outcome-fits (c .before)))
 
 returns : tie.Need-returns
-returns c = simp (held c, more c, less c, kept (sum c) (sum-fits c), kept (outcome c) (outcome-fits c))
+returns c = simp (held (c .before), more (c .before), less (c .before), kept (sum (c .before)) (sum-fits (c .before)), kept (outcome (c .before)) (outcome-fits (c .before)))
 
 pub changed-spec : {M : Type 1} → statement M
-changed-spec = tie.close (tie.spec cast-result add-result cast-result-2 sub-result returns)
+changed-spec = tie.close (tie.spec cast-t7 add-t8 cast-t9 sub-t10 returns)

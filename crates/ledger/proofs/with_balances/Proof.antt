@@ -55,15 +55,15 @@ module _ (c : tie.Start) where
   less-fits : toZ w64 (ofZ w64 less) ≡ less
   less-fits = kept less (omega (arith, size-minus left (c .args .e .credit .0), left-small, c .pre .1 .moved))
 
-after-charge : (c : tie.After-changed) → c .changed .result ≡ more (c .before .before .before)
+after-charge : (c : tie.After-changed) → c .changed .result .0 ≡ more (c .before .before .before)
 after-charge c =
     let k = c .before .before .before in
     (simp (held-fits k) at (c .changed .ensures)) ∙ +ℤ-idr (more k)
 
-after-credit : (c : tie.After-changed2) → c .changed2 .result ≡ less (c .before .before .before .before .before .before)
+after-credit : (c : tie.After-changed2) → c .changed2 .result .0 ≡ less (c .before .before .before .before .before .before .before)
 after-credit c =
-    let k = c .before .before .before .before .before .before in
-    (simp (after-charge (c .before .before .before), more-fits k, left-fits k) at (c .changed2 .ensures))
+    let k = c .before .before .before .before .before .before .before in
+    (simp (after-charge (c .before .before .before .before), more-fits k, left-fits k) at (c .changed2 .ensures))
     ∙ ap (λ (z : ℤ). z -ℤ pos (k .args .e .credit .0)) (+ℤ-idr (left k))
 
 mul-held : tie.Need-mul-held
@@ -77,34 +77,34 @@ changed-requires c κs =
     let k = c .before .before in
     rw (held-fits k) (omega (arith, k .pre .0 .balances (k .args .e .charged)), (omega (arith, k .pre .1 .moved), omega arith))
 
+mul-more : tie.Need-mul-more
+mul-more c = search needs
+
+element-set-from-more : tie.Need-element-set-from-more
+element-set-from-more c = search needs
+
 mul-kept : tie.Need-mul-kept
 mul-kept c = search needs
-
-element-set-from-kept : tie.Need-element-set-from-kept
-element-set-from-kept c = search needs
-
-mul-kept-2 : tie.Need-mul-kept-2
-mul-kept-2 c = search needs
 
 element-copy-out-kept : tie.Need-element-copy-out-kept
 element-copy-out-kept c = search needs
 
 changed-requires-2 : tie.Need-changed-requires-2
 changed-requires-2 c κs =
-    let k = c .before .before .before .before .before in
-    simp (after-charge (c .before .before), more-fits k, left-fits k) (left-small k, (omega arith, omega (arith, k .pre .1 .moved)))
+    let k = c .before .before .before .before .before .before in
+    simp (after-charge (c .before .before .before), more-fits k, left-fits k) (left-small k, (omega arith, omega (arith, k .pre .1 .moved)))
 
-mul-t11 : tie.Need-mul-t11
-mul-t11 c = search needs
+mul-less : tie.Need-mul-less
+mul-less c = search needs
 
-element-set-from-next : tie.Need-element-set-from-next
-element-set-from-next c = search needs
+element-set-from-less : tie.Need-element-set-from-less
+element-set-from-less c = search needs
 
 returns : tie.Need-returns
 unfolding balanced chargedAndCredited
 returns c =
-    let k = c .before .before .before .before .before .before in
-    simp (after-credit c, after-charge (c .before .before .before), more-fits k, less-fits k)
+    let k = c .before .before .before .before .before .before .before .before in
+    simp (after-credit (c .before), after-charge (c .before .before .before .before .before), more-fits k, less-fits k)
 
 pub with-balances-spec : {M : Type 1} → statement M
 with-balances-spec =
@@ -113,11 +113,11 @@ with-balances-spec =
     mul-held
     element-copy-out-held
     changed-requires
+    mul-more
+    element-set-from-more
     mul-kept
-    element-set-from-kept
-    mul-kept-2
     element-copy-out-kept
     changed-requires-2
-    mul-t11
-    element-set-from-next
+    mul-less
+    element-set-from-less
     returns)

@@ -1,0 +1,75 @@
+"""Writes the trial's input and the output that is expected of it.
+
+cases.py FOLDER         the examples of document 01
+cases.py FOLDER CASES   the cases that the reference implementation made
+"""
+import sys
+
+EXAMPLE = b"""P,1,1000
+P,2,400
+S,1,1,16,1000,-,-,10000,0
+H,1,2,10000,56100
+E,0,2,500,400000
+B,2,100,1900000,250000
+G,1,2,300
+"""
+REPORT = b"""R,1,2131800,0,0,2131800,0,1492260,0,2131.800,0.000
+R,2,561000,200000,0,1390540,225000,1390540,225000,3476.350,562.500
+T,3107800,3107800,0,0
+"""
+NOTHING = b"""R,1,0,0,0,0,0,0,0,0.000,0.000
+R,2,0,0,0,0,0,0,0,0.000,0.000
+T,0,0,0,0
+"""
+# The example report and the table of refusals: a sheet, its number and line, its report.
+EXAMPLES = [
+    (EXAMPLE, 0, 0, REPORT),
+    (b"x" * 65537, 1, 0, b""),
+    (b"P,1,5\n" + b"E,0,1,1,0\n" * 4096, 2, 4097, b""),
+    (b"P,1,5", 3, 1, b""),
+    (b"\n", 4, 1, b""),
+    (b"P,1\n", 5, 1, b""),
+    (b"P,1,05\n", 6, 1, b""),
+    (b"P,1,0\n", 7, 1, b""),
+    (b"P,2,5\n", 8, 1, b""),
+    (b"P,1,5\nW,1,2,9\n", 9, 2, b""),
+    (b"P,1,5\nW,1,1,9\n", 10, 2, b""),
+    (b"P,1,5\nS,1,1,0,1,-,1,1,0\n", 11, 2, b""),
+    (b"P,1,5\nP,2,5\nG,1,2,1\nG,1,2,1\n", 12, 4, b""),
+    (b"P,1,5\nP,2,5\nG,1,2,6\n", 13, 3, b""),
+    (b"", 14, 0, b""),
+    (b"P,1,1\nP,2,1\nG,1,2,1\n", 0, 0, NOTHING),
+]
+
+
+def made(path):
+    """The cases of a file, without those of refusal 16, which the reckoner does not decide."""
+    data = open(path, "rb").read()
+    at = 0
+    while at < len(data):
+        size, _, number, line, length = (int(data[k : k + 8]) for k in range(at, at + 40, 8))
+        sheet = data[at + 40 : at + 40 + size]
+        at += 40 + size
+        report = data[at : at + length]
+        at += length
+        if number != 16:
+            yield sheet, number, line, report
+
+
+def expected(sheet, number, line, report):
+    if number == 0:
+        return report
+    offending = sheet.split(b"\n")[line - 1] if line else b""
+    return b"%d,%d,%s\n" % (number, line, offending)
+
+
+def main():
+    cases = list(made(sys.argv[2])) if len(sys.argv) > 2 else EXAMPLES
+    with open(sys.argv[1] + "/stdin", "wb") as given, open(sys.argv[1] + "/stdout", "wb") as wanted:
+        for case in cases:
+            given.write(b"%08d" % len(case[0]) + case[0])
+            wanted.write(expected(*case) + b"--\n")
+    print(len(cases), "cases")
+
+
+main()
