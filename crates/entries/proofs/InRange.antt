@@ -12,7 +12,7 @@ use Rattle.decimal.proofs.Bools.{never, or-neither}
 use Rattle.lines.specs.Records.{number, dash, other, field, numberIn, numberAt}
 use Rattle.lines.specs.Words.{DASH, OTHER}
 use Rattle.lines.specs.declared.LineRead.{LineRead}
-use Rattle.sheet.specs.Limits.{Limits}
+use Rattle.quantity.specs.Limits.{Limits}
 use Rattle.sheet.specs.Kinds.{Rule, _to_, rulesOf}
 use Rattle.sheet.specs.Refusals.{notNumber, outOfRange}
 use Rattle.sheet.specs.Verdict.{fieldChecks}

@@ -16,7 +16,7 @@ use Rattle.quantity.specs.Streams.{streamGrams}
 use Rattle.quantity.specs.Standard.{standardA, standardB}
 use Rattle.quantity.specs.Weights.{weight, wasteGasCharge, wasteGasCredit}
 use Rattle.goods.specs.Sums.{onlyAt}
-use Rattle.sheet.specs.Limits.{limits}
+use Rattle.quantity.specs.Limits.{limits}
 use Rattle.goods.specs.Settling.{SIZE}
 use Rattle.ledger.specs.Raising.{raisedToZero, gramsAdded}
 use Rattle.entries.specs.Weighed.{streamOf, heatOf, chargeOf, creditOf, powerOf, boughtDirectOf, boughtIndirectOf}

@@ -9,7 +9,7 @@ use Rattle.lines.specs.Records.{Record, field, numberAt}
 use Rattle.lines.specs.declared.LineRead.{LineRead}
 use Rattle.lines.specs.declared.Kind.{Kind}
 use Rattle.lines.specs.declared.Kind.the-variants.{Process, Heat, WasteGas, Power, BoughtPrecursor, OwnGood}
-use Rattle.sheet.specs.Limits.{Limits}
+use Rattle.quantity.specs.Limits.{Limits}
 use Rattle.sheet.specs.Kinds.{Rule, _to_, rules, rulesOf, kilos, megajoules, specificFigure, processNumber, endNumber}
 use Rattle.entries.specs.Read.{recordRead, Shaped}
 use Rattle.entries.proofs.InRange.{noRule, InRange, count-is, number-read, number-is}

@@ -13,7 +13,7 @@ use Rattle.lines.specs.Records.{Field, number, dash, other, Record, field}
 use Rattle.lines.specs.Words.{CAP, DASH, OTHER, word, words}
 use Rattle.lines.specs.declared.Kind.{Kind}
 use Rattle.lines.specs.declared.Kind.the-variants.{Process, SourceStream, Heat, WasteGas, Power, BoughtPrecursor, OwnGood, Unknown}
-use Rattle.sheet.specs.Limits.{Limits}
+use Rattle.quantity.specs.Limits.{Limits}
 use Rattle.sheet.specs.Kinds.{Rule, burning, processEmission, carbon, noMethod, methodRules, rules, rulesOf}
 use Rattle.sheet.specs.Verdict.{fieldChecks}
 use Rattle.sheet.proofs.First.{All, Passes}

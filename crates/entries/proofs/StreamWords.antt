@@ -1,7 +1,7 @@
 -- The words of an S line whose shape is fine, by its method, `-` standing for the standard value. Assumes nothing.
 use mathlib.Core.Path.{_≡_, refl, ap, _∙_}
 use mathlib.Core.Logic.{_⊎_, inl, inr}
-use mathlib.Core.Bool.{Bool, true, false, cond}
+use mathlib.Core.Bool.{Bool, true, false}
 use mathlib.Core.List.{List, [], _∷_}
 use Prim.Native.Nat.{ℕ, zero, suc, _≤_, _<_}
 use native.Mathlib.Omega.{arith}
@@ -15,7 +15,7 @@ use Rattle.lines.specs.declared.Kind.the-variants.{SourceStream}
 use Rattle.quantity.specs.Standard.{fuels, carbonates, fuelOf, carbonateOf, standardA, standardB}
 use Rattle.quantity.proofs.Tables.{Lists, largest, at-found, net-calorific-values, emission-factors, carbonate-factors}
 use Rattle.quantity.specs.Ranges.{StreamRange}
-use Rattle.sheet.specs.Limits.{Limits}
+use Rattle.quantity.specs.Limits.{Limits}
 use Rattle.sheet.specs.Kinds.{Rule, _to_, methodRules, rules, rulesOf, orDash, exactly, kilos, share, processNumber}
 use Rattle.entries.specs.Read.{fieldRead, recordRead, Shaped, orStandardWord}
 use Rattle.entries.specs.Weighed.{orStandard}

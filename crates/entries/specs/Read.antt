@@ -9,7 +9,7 @@ use lib.ListN.{take}
 use Rattle.lines.specs.Records.{Field, number, dash, other, Record}
 use Rattle.lines.specs.Words.{DASH, OTHER}
 use Rattle.lines.specs.declared.LineRead.{LineRead}
-use Rattle.sheet.specs.Limits.{Limits}
+use Rattle.quantity.specs.Limits.{Limits}
 use Rattle.sheet.specs.Kinds.{rulesOf}
 use Rattle.sheet.specs.Refusals.{unknownKind, wrongFieldCount}
 use Rattle.sheet.specs.Verdict.{accepted, firstOf, fieldChecks}

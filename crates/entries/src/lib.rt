@@ -6,7 +6,7 @@ ghost use mathlib.Core.Path.{_≡_};
 ghost use Prim.Native.Nat.{_≤_};
 ghost use Rattle.lines.specs.declared.Kind.the-variants.{SourceStream, Heat, WasteGas, Power, BoughtPrecursor};
 ghost use Rattle.ledger.specs.Ledger.{Small};
-ghost use Rattle.sheet.specs.Limits.{limits};
+ghost use Rattle.quantity.specs.Limits.{limits};
 ghost use Rattle.entries.specs.Entries.{entry};
 ghost use Rattle.entries.specs.Read.{recordRead, Shaped};
 use ledger::Entry;

@@ -146,7 +146,7 @@ pub fn stream_entry(process: usize, grams: SignedGrams) -> Entry
     ensures { λ r. ⌜ r ≡ moved process (raisedToZero (grams .0)) process (gramsAdded (grams .0)) 0 0 (raisedToZero (grams .0)) (gramsAdded (grams .0)) 0 ⌝ }
     ensures small { λ r. ⌜ Small r ⌝ }
 {
-    let parts = ledger::raise(grams.0);
+    let parts = ledger::raise(grams);
     let plus = parts.direct;
     let minus = parts.raised;
     let mut stream = nothing();

@@ -3,13 +3,14 @@ use mathlib.Core.Path.{_≡_}
 use mathlib.Core.List.{List}
 use Prim.Native.Nat.{ℕ, _+_, _*_, _^_, _≤_, _<_}
 use lib.ListN.{length, getD}
+use Rattle.quantity.specs.Limits.{limits}
 use Rattle.goods.specs.Sums.{sumTo}
 use Rattle.goods.specs.Goods.{takers, portionOf, left, poolOf, leftOf}
 
 -- ---- places: processes are 1 .. PROCESSES, and place 0 is outside the works
 
 abbrev pub PROCESSES : ℕ
-PROCESSES = 16
+PROCESSES = limits .processes
 
 abbrev pub SIZE : ℕ
 SIZE = PROCESSES + 1

@@ -5,10 +5,8 @@ ghost use lib.ListN.{length, getD};
 ghost use Rattle.goods.specs.Settling.{PROCESSES, SIZE, figures, pairs, CanPassOn, PassedOn, Settleable, PoolsSettled};
 use quantity::Grams;
 use quantity::Kilos;
+use quantity::limits::PROCESSES;
 use quantity::shares::share;
-
-// A works has at most this many processes, numbered from 1.
-pub const PROCESSES: usize = 16;
 
 // Figures stand at the process's number; place 0 is outside the works.
 pub const SIZE: usize = PROCESSES + 1;

@@ -1,4 +1,5 @@
--- Document 01, "Source streams" and the weights of "Attribution", in the paper's order.
+-- Document 01's limits, "Source streams" and the weights of "Attribution", in the paper's order.
+pub mod Limits
 pub mod Rounding
 pub mod Streams
 pub mod Standard

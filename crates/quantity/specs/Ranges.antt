@@ -1,6 +1,6 @@
 -- What the functions of this crate ask of their arguments: the ranges of document 01's fields.
 use mathlib.Core.Path.{_≡_}
-use Prim.Native.Nat.{ℕ, _≤_, _<_}
+use Prim.Native.Nat.{ℕ, _≤_}
 
 -- method 1
 pub record CombustionRange (kilos a b c d : ℕ) : Type 0 where

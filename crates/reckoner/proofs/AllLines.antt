@@ -3,36 +3,34 @@
 use mathlib.Core.Path.{_≡_, refl, sym, ap, ap₂, _∙_}
 use mathlib.Core.Bool.{Bool, true, false, cond, not}
 use mathlib.Core.List.{List, [], _∷_, _++_, map}
-use Prim.Native.Nat.{ℕ, zero, suc, _+_, _*_, _^_, _≤_, _<_}
-use native.Mathlib.Numerals.{add-one}
+use Prim.Native.Nat.{ℕ, suc, _+_, _*_, _≤_, _<_}
 use native.Mathlib.Omega.{arith}
 use borrow.Author.Tests.{ltb-true}
-use lib.Dec.{eqb, ltb}
+use lib.Dec.{eqb}
 use lib.ListN.{length, getD, drop, replicate}
-use Rattle.lines.specs.Lines.{Line, linesOf}
+use Rattle.lines.specs.Lines.{linesOf}
 use Rattle.lines.specs.Records.{Record, recordOf, recordsOf}
-use Rattle.lines.specs.Words.{CAP, ReadAt, lineAt, lineLength, words}
+use Rattle.lines.specs.Words.{ReadAt, lineAt, lineLength, words}
 use Rattle.lines.specs.declared.LineRead.{LineRead}
 use Rattle.lines.proofs.NextLine.{lines-step, lines-done, line-ended}
 use Rattle.goods.specs.Settling.{SIZE, PAIRS}
-use Rattle.ledger.specs.Ledger.{Small, STEP}
-use Rattle.ledger.proofs.Bounds.{within-more}
-use Rattle.sheet.specs.Limits.{limits}
+use Rattle.ledger.specs.Ledger.{Small}
+use Rattle.quantity.specs.Limits.{limits}
 use Rattle.sheet.specs.Refusals.{sumOf}
-use Rattle.sheet.specs.Verdict.{Check, Verdict, accepted, refused, firstOf, lineChecks, linesChecks}
+use Rattle.sheet.specs.Verdict.{Check, accepted, refused, firstOf, lineChecks, linesChecks}
 use Rattle.sheet.specs.Code.{lineNumber}
-use Rattle.sheet.proofs.First.{All, Passes, accepted-passes}
+use Rattle.sheet.proofs.First.{accepted-passes}
 use Rattle.sheet.proofs.Passed.{line-fine}
 use Rattle.sheet.proofs.Held.{GoodAsked}
 use Rattle.sheet.proofs.LineNumber.{given, line-accepted, line-refused, read-number}
 use Rattle.entries.specs.Entries.{entry}
 use Rattle.entries.specs.Read.{recordRead, Shaped}
-use Rattle.reckoner.specs.Works.{worksAtStart, worksAfter, kilosAfter, Roomy}
-use Rattle.reckoner.specs.Gathered.{Gathered, NoKilos}
+use Rattle.reckoner.specs.Works.{worksAtStart, worksAfter, kilosAfter}
+use Rattle.reckoner.specs.Gathered.{NoKilos}
 use Rattle.reckoner.specs.declared.judging.Works.{Works}
 use Rattle.reckoner.proofs.HeldLedger.{held-start}
 use Rattle.reckoner.proofs.HeldGoods.{goods-start}
-use Rattle.reckoner.proofs.Standing.{Standing, standing-start, standing-next, good-held, roomy, read-shaped, read-few}
+use Rattle.reckoner.proofs.Standing.{Standing, standing-start, standing-next, good-held, read-shaped, read-few}
 
 -- ---- the first of two lists of checks
 

@@ -1,36 +1,33 @@
 -- The answers of the reckoner: the verdict of rows 1 to 15, from what the code finds. Assumes nothing.
 use mathlib.Core.Path.{_≡_, refl, sym, ap, ap₂, _∙_}
-use mathlib.Core.Bool.{Bool, true, false, cond, _||_}
+use mathlib.Core.Bool.{false}
 use mathlib.Core.List.{List, [], _∷_, _++_}
-use Prim.Native.Nat.{ℕ, _+_, _^_, _≤_, _<_}
+use Prim.Native.Nat.{ℕ, _^_, _≤_, _<_}
 use native.Mathlib.Omega.{arith}
 use borrow.Author.Tests.{lt-ltb, le-ltb, eq-eqb, ne-eqb, lt-leb}
-use lib.Dec.{eqb, ltb, leb}
 use lib.IntN.{ℤ, pos, negsuc, natAbs, _+ℤ_}
 use lib.Signed.{leZ}
 use lib.ListN.{length}
 use Rattle.lines.specs.Lines.{linesOf}
-use Rattle.lines.specs.Records.{Record, recordsOf}
-use Rattle.sheet.specs.Limits.{limits}
+use Rattle.lines.specs.Records.{recordsOf}
+use Rattle.quantity.specs.Limits.{limits}
 use Rattle.sheet.specs.Verdict.{Check, check, Verdict, accepted, refused, firstOf, linesChecks, sheetChecks, numberOf, lineOf}
 use Rattle.sheet.specs.Code.{refusalNumber}
 use Rattle.sheet.specs.declared.refusals.Refusal.{Refusal}
-use Rattle.sheet.proofs.First.{accepted-passes, passes-accepted}
-use Rattle.sheet.proofs.Passed.{FineSheet, lines-fine}
+use Rattle.sheet.proofs.First.{accepted-passes}
+use Rattle.sheet.proofs.Passed.{lines-fine}
 use Rattle.closing.specs.Closing.{Closed, anyLarge}
 use Rattle.closing.specs.declared.Closing.{Closing}
 use Rattle.goods.specs.Settling.{figures}
 use Rattle.reckoner.specs.Reckoning.{reckoning}
 use Rattle.reckoner.specs.Verdict.{figureTooLarge, reckonerChecks}
-use Rattle.reckoner.specs.Gathered.{Gathered, ReadOf}
-use Rattle.reckoner.specs.Reckoned.{FiguresOf, Reckoned, refusedBy, acceptedAs, largeRows, largeTotals, large}
-use Rattle.reckoner.specs.declared.judging.Works.{Works}
+use Rattle.reckoner.specs.Gathered.{ReadOf}
+use Rattle.reckoner.specs.Reckoned.{FiguresOf, Reckoned, refusedBy, acceptedAs, largeTotals, large}
 use Rattle.reckoner.specs.declared.reading.Read.{Read}
-use Rattle.reckoner.specs.declared.Reckoning.{Reckoning}
 use Rattle.reckoner.proofs.Valid.{Accepted, sheet-accepted}
 use Rattle.reckoner.proofs.Works.{left-is-entered-raised-uncredited}
 use Rattle.reckoner.proofs.AllLines.{first-rest, first-here}
-use Rattle.reckoner.proofs.Fits.{none-large, RowBelow, row-below, left-total, entered-total, uncredited-total, no-figure-too-large}
+use Rattle.reckoner.proofs.Fits.{none-large, RowBelow, row-below, left-total, no-figure-too-large}
 use Rattle.reckoner.proofs.Figured.{figures-is}
 
 -- ---- the verdict of rows 1 to 15

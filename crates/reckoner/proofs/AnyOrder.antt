@@ -1,21 +1,18 @@
 -- What is held of the lines above goes by sums over them, so the order of the lines is of no account. Assumes nothing.
-use mathlib.Core.Path.{_≡_, refl, sym, ap, ap₂, _∙_}
+use mathlib.Core.Path.{_≡_, refl, sym, ap₂, _∙_}
 use mathlib.Core.List.{List, [], _∷_}
-use Prim.Native.Nat.{ℕ, _*_, _≤_}
+use Prim.Native.Nat.{ℕ}
 use native.Mathlib.Omega.{arith}
-use lib.IntN.{ℤ, pos}
-use lib.ListN.{length, getD}
+use lib.ListN.{length}
 use Rattle.lines.specs.Records.{Record}
 use Rattle.sheet.specs.Refusals.{sumOf, outputIn, takenIn}
-use Rattle.ledger.specs.Ledger.{STEP, Within}
 use Rattle.ledger.specs.declared.Ledger.{Ledger}
-use Rattle.entries.specs.Entries.{entry}
 use Rattle.reckoner.specs.Reckoning.{processCount, kilosBetween}
 use Rattle.reckoner.proofs.Differences.{diff}
 use Rattle.reckoner.proofs.Entries.{plus, minus}
 use Rattle.reckoner.proofs.Bounds.{intoProcesses, outOfProcesses}
 use Rattle.reckoner.proofs.HeldLedger.{HeldLedger}
-use Rattle.reckoner.proofs.HeldGoods.{HeldGoods, KILOS}
+use Rattle.reckoner.proofs.HeldGoods.{HeldGoods}
 
 -- every sum over the one list is the sum over the other
 abbrev pub SameSums : List Record → List Record → Type 0

@@ -1,14 +1,8 @@
 -- The figures of a closed works are document 01's over the sheet's records. Assumes nothing.
-use mathlib.Core.Path.{_≡_, refl, sym, ap, ap₂, _∙_}
-use mathlib.Core.Bool.{Bool, true, false, _||_}
+use mathlib.Core.Path.{_≡_, ap, ap₂, _∙_}
 use mathlib.Core.List.{List}
-use Prim.Native.Nat.{ℕ, _+_, _^_, _≤_, _<_}
-use native.Mathlib.Omega.{arith}
-use borrow.Author.Tests.{lt-leb}
-use lib.Dec.{leb}
-use lib.IntN.{ℤ, pos, negsuc, natAbs}
-use lib.Signed.{leZ}
-use lib.ListN.{getD, length}
+use Prim.Native.Nat.{ℕ, _+_, _≤_}
+use lib.ListN.{length}
 use Rattle.lines.specs.Records.{Record}
 use Rattle.goods.specs.Sums.{sumTo}
 use Rattle.goods.specs.Goods.{poolOf, leftOf}
@@ -16,16 +10,15 @@ use Rattle.goods.specs.Settling.{SIZE, figures, pairs}
 use Rattle.goods.proofs.Sums.{sum-cong}
 use Rattle.goods.proofs.Same.{pool-cong, left-cong}
 use Rattle.ledger.specs.Raising.{raisedToZero}
-use Rattle.closing.specs.Closing.{anyLarge, Holds, Closed, ownDirect, ownIndirect}
+use Rattle.closing.specs.Closing.{Holds, Closed}
 use Rattle.closing.specs.declared.Closing.{Closing}
-use Rattle.reckoner.specs.Attribution.{direct, indirect, boughtDirect, boughtIndirect}
-use Rattle.reckoner.specs.Reckoning.{processCount, output, kilosBetween, directPool, indirectPool, directLeft, indirectLeft, totalLeft, totalRaised}
+use Rattle.reckoner.specs.Attribution.{direct, indirect}
+use Rattle.reckoner.specs.Reckoning.{processCount, output, kilosBetween, directPool, indirectPool, directLeft, indirectLeft, totalLeft}
 use Rattle.reckoner.specs.Gathered.{Gathered}
-use Rattle.reckoner.specs.Reckoned.{Column, FiguresOf, acceptedAs, largeRows, largeTotals, large}
+use Rattle.reckoner.specs.Reckoned.{Column, FiguresOf, acceptedAs}
 use Rattle.reckoner.specs.declared.judging.Works.{Works}
 use Rattle.reckoner.proofs.Valid.{Accepted}
 use Rattle.reckoner.proofs.Ready.{own-direct-is, own-indirect-is, raised-is, pairs-is, raised-sum}
-use Rattle.reckoner.proofs.Fits.{none-large, RowBelow, row-below, left-total, entered-total, uncredited-total}
 
 module _ (rs : List Record) (w : Works) (kilos : List ℕ) (g : Gathered rs w kilos) (ok : Accepted rs) (c : Closing)
     (closed : Closed (w .ledger) (w .outputs) kilos (w .count) c) where

@@ -1,29 +1,23 @@
 -- No whole-gram figure of an accepted sheet reaches 2^63, so row 15 never applies. Assumes nothing.
-use mathlib.Core.Path.{_≡_, refl, sym, ap, _∙_}
-use mathlib.Core.Bool.{Bool, true, false, _||_}
+use mathlib.Core.Path.{_≡_, refl, ap}
+use mathlib.Core.Bool.{false}
 use mathlib.Core.List.{List, [], _∷_, _++_}
-use Prim.Native.Nat.{ℕ, zero, suc, _+_, _-_, _^_, _≤_, _<_}
-use native.Mathlib.Nat.{le-refl, le-trans}
+use Prim.Native.Nat.{ℕ, zero, suc, _+_, _^_, _≤_, _<_}
+use native.Mathlib.Nat.{le-refl}
 use native.Mathlib.Omega.{arith}
 use borrow.Author.Tests.{lt-leb}
-use lib.Dec.{leb}
-use lib.IntN.{ℤ, pos, negsuc, natAbs}
-use lib.Signed.{leZ}
-use lib.ListN.{getD}
+use lib.IntN.{natAbs}
 use Rattle.lines.specs.Records.{Record}
 use Rattle.sheet.proofs.First.{All}
 use Rattle.goods.specs.Sums.{sumTo}
 use Rattle.goods.specs.Goods.{poolOf, leftOf}
-use Rattle.goods.specs.Settling.{figures}
 use Rattle.goods.proofs.Sums.{sum-mono, sum-suc}
 use Rattle.goods.proofs.Pools.{pool-le, left-is, left-sum}
 use Rattle.closing.specs.Closing.{anyLarge}
-use Rattle.closing.specs.declared.Closing.{Closing}
 use Rattle.reckoner.specs.Attribution.{direct, indirect, raised, boughtDirect, boughtIndirect}
 use Rattle.reckoner.specs.Reckoning.{Row, processCount, output, kilosBetween, directPool, indirectPool, directLeft, indirectLeft, totalLeft, entered, totalRaised, uncredited, rowOf, rowsTo, reckoning}
 use Rattle.reckoner.specs.Verdict.{rowGrams, rowsGrams, anyFrom, figureTooLarge}
 use Rattle.reckoner.specs.Gathered.{Gathered}
-use Rattle.reckoner.specs.Reckoned.{Column, largeRows, largeTotals}
 use Rattle.reckoner.specs.declared.judging.Works.{Works}
 use Rattle.reckoner.proofs.Entries.{forward}
 use Rattle.reckoner.proofs.Valid.{Accepted}

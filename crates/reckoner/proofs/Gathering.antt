@@ -1,14 +1,15 @@
 -- What is held once all lines are read: document 01's figures over the sheet's records. Assumes nothing.
-use mathlib.Core.Path.{_≡_, refl, sym, ap, _∙_}
+use mathlib.Core.Path.{_≡_, sym, _∙_}
 use mathlib.Core.Logic.{_⊎_, inl, inr}
 use mathlib.Core.Bool.{true, _&&_}
-use mathlib.Core.List.{List, [], map}
-use Prim.Native.Nat.{ℕ, _+_, _*_, _≤_, _<_}
+use mathlib.Core.List.{List}
+use Prim.Native.Nat.{ℕ, _≤_}
 use native.Mathlib.Omega.{arith}
 use borrow.Author.Tests.{eqb-true, le-leb}
 use lib.Dec.{eqb}
 use lib.ListN.{length}
 use Rattle.decimal.proofs.Bools.{or-either}
+use Rattle.quantity.specs.Limits.{limits}
 use Rattle.lines.specs.declared.Kind.the-variants.{Process}
 use Rattle.lines.specs.Records.{Record, recordsOf, is}
 use Rattle.lines.proofs.NextLine.{lines-done}
@@ -33,7 +34,7 @@ module _ (sheet : List ℕ) (at : ℕ) (w : Works) (kilos : List ℕ) (rd : Read
   unfolding sumOf
   same f = let s = rw (lines-done sheet at done) at (rd .sums f) in omega arith
 
-  few : length (recordsOf sheet) ≤ 4096
+  few : length (recordsOf sheet) ≤ limits .lines
   few = omega (arith, same-length (rd .above) (recordsOf sheet) same, rd .standing .few)
 
   ledger : HeldLedger (recordsOf sheet) (w .ledger)

@@ -20,10 +20,7 @@ use Rattle.ledger.specs.Ledger.{added}
 use Rattle.ledger.proofs.Bounds.{each-same}
 use Rattle.ledger.proofs.Places.{place-added}
 use Rattle.reckoner.specs.Reckoning.{kilosOf, processCount, kilosBetween}
-
--- kilograms of one line are at most this
-abbrev pub KILOS : ℕ
-KILOS = 10000000000
+use Rattle.reckoner.specs.Works.{KILOS}
 
 pub record HeldGoods (above : List Record) (count : ℕ) (outputs taken kilos : List ℕ) : Type 0 where
   pub counted : count ≡ processCount above

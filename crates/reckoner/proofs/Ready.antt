@@ -1,27 +1,16 @@
 -- An accepted sheet is ready to be closed, no figure of it reaches 2^63, and the closing's figures are document 01's. Assumes nothing.
-use mathlib.Core.Path.{_≡_, refl, sym, ap, ap₂, _∙_}
-use mathlib.Core.Bool.{Bool, true, false, _||_}
-use mathlib.Core.List.{List, [], _∷_, _++_}
-use Prim.Native.Nat.{ℕ, zero, suc, _+_, _*_, _^_, _≤_, _<_}
-use native.Mathlib.Nat.{le-refl, le-trans}
+use mathlib.Core.Path.{_≡_, ap, ap₂, _∙_}
+use mathlib.Core.List.{List}
+use Prim.Native.Nat.{ℕ, _+_, _^_, _≤_, _<_}
 use native.Mathlib.Omega.{arith}
-use borrow.Author.Tests.{lt-leb}
-use lib.Dec.{leb}
-use lib.IntN.{ℤ, pos, natAbs}
-use lib.ListN.{length, getD}
 use Rattle.lines.specs.Records.{Record}
-use Rattle.sheet.specs.Limits.{limits}
-use Rattle.sheet.proofs.First.{All}
 use Rattle.goods.specs.Sums.{sumTo}
-use Rattle.goods.specs.Goods.{poolOf, leftOf}
 use Rattle.goods.specs.Settling.{SIZE, figures, pairs, Settleable}
-use Rattle.goods.proofs.Sums.{sum-ext, sum-mono, sum-suc, sum-cong}
-use Rattle.goods.proofs.Pools.{pool-le, left-is}
-use Rattle.goods.proofs.Same.{pool-cong, left-cong}
+use Rattle.goods.proofs.Sums.{sum-ext, sum-cong}
 use Rattle.ledger.specs.Raising.{raisedToZero, gramsAdded}
-use Rattle.closing.specs.Closing.{Ready, ownDirect, ownIndirect, directOf, raisedOf}
-use Rattle.reckoner.specs.Attribution.{balance, direct, indirect, raised, boughtDirect, boughtIndirect}
-use Rattle.reckoner.specs.Reckoning.{processCount, output, kilosBetween, totalRaised}
+use Rattle.closing.specs.Closing.{Ready, ownDirect, ownIndirect, raisedOf}
+use Rattle.reckoner.specs.Attribution.{direct, indirect, raised, boughtDirect, boughtIndirect}
+use Rattle.reckoner.specs.Reckoning.{processCount, kilosBetween, totalRaised}
 use Rattle.reckoner.specs.Gathered.{Gathered}
 use Rattle.reckoner.specs.declared.judging.Works.{Works}
 use Rattle.reckoner.proofs.Entries.{forward}

@@ -1,8 +1,8 @@
 -- What the code holds of the lines above it, and that one accepted line more keeps it. Assumes nothing.
-use mathlib.Core.Path.{_≡_, refl, sym, ap, ap₂, _∙_}
+use mathlib.Core.Path.{_≡_, refl, sym, ap, _∙_}
 use mathlib.Core.Bool.{Bool, true, false, cond, not, _&&_, _||_}
 use mathlib.Core.List.{List, [], _∷_, map}
-use Prim.Native.Nat.{ℕ, zero, suc, _+_, _*_, _≤_, _<_}
+use Prim.Native.Nat.{ℕ, suc, _+_, _*_, _≤_, _<_}
 use native.Mathlib.Numerals.{add-one}
 use native.Mathlib.Omega.{arith}
 use borrow.Author.Tests.{eqb-true, eqb-false, eq-eqb, ne-eqb, ltb-false}
@@ -10,33 +10,32 @@ use lib.Dec.{eqb}
 use lib.ListN.{length, getD, replicate}
 use lib.Seq.{length-sets}
 use Rattle.decimal.proofs.Bools.{never}
-use Rattle.lines.specs.Lines.{Line}
-use Rattle.lines.specs.Records.{Field, number, dash, other, Record, recordOf, letter, numberAt, is}
+use Rattle.lines.specs.Records.{Field, Record, recordOf, numberAt, is}
 use Rattle.lines.specs.Words.{CAP, ReadAt, lineAt, word, words}
 use Rattle.lines.specs.declared.Kind.{Kind}
 use Rattle.lines.specs.declared.Kind.the-variants.{Process, SourceStream, Heat, WasteGas, Power, BoughtPrecursor, OwnGood, Unknown}
 use Rattle.lines.specs.declared.LineRead.{LineRead}
 use Rattle.goods.specs.Settling.{SIZE}
 use Rattle.goods.specs.Sums.{onlyAt}
-use Rattle.goods.proofs.Sums.{at-same, at-other, at-none, at-le}
-use Rattle.ledger.specs.Ledger.{Room, Small, booked}
+use Rattle.goods.proofs.Sums.{at-same, at-other, at-none}
+use Rattle.ledger.specs.Ledger.{Small, booked}
 use Rattle.ledger.proofs.Bounds.{within-more}
-use Rattle.sheet.specs.Limits.{Limits, limits}
+use Rattle.quantity.specs.Limits.{limits}
 use Rattle.sheet.specs.Kinds.{Rule, rulesOf}
 use Rattle.sheet.specs.Refusals.{anyOf, sumOf, process, from, to, outputIn}
 use Rattle.sheet.specs.Verdict.{accepted, firstOf, fieldChecks, lineChecks}
 use Rattle.sheet.proofs.First.{All, Passes, accepted-passes, passes-accepted}
-use Rattle.sheet.proofs.Passed.{Fine, line-fine, in-range}
-use Rattle.sheet.proofs.Held.{Held, GoodHeld, GoodAsked, held-none, held-next}
+use Rattle.sheet.proofs.Passed.{Fine, line-fine}
+use Rattle.sheet.proofs.Held.{Held, GoodAsked, held-none, held-next}
 use Rattle.entries.specs.Entries.{entry}
-use Rattle.entries.specs.Read.{fieldRead, recordRead, Shaped}
+use Rattle.entries.specs.Read.{recordRead, Shaped}
 use Rattle.entries.proofs.ReadBack.{rules-fit, record-back}
 use Rattle.entries.proofs.KindWords.{process-words, goods-words}
 use Rattle.reckoner.specs.Reckoning.{kilosOf, kilosBetween}
 use Rattle.reckoner.specs.declared.judging.Works.{Works}
 use Rattle.reckoner.specs.Works.{worksAfter, kilosAfter, Roomy}
-use Rattle.reckoner.proofs.HeldLedger.{HeldLedger, held-start, held-booked}
-use Rattle.reckoner.proofs.HeldGoods.{HeldGoods, goods-start, held-process, held-good, held-other}
+use Rattle.reckoner.proofs.HeldLedger.{HeldLedger, held-booked}
+use Rattle.reckoner.proofs.HeldGoods.{HeldGoods, held-process, held-good, held-other}
 use Rattle.reckoner.proofs.Noted.{after-process, after-good, after-other}
 
 -- a pair has kilograms exactly where a G line above has it
@@ -49,7 +48,7 @@ Made above = (p : ℕ) → anyOf (λ r. is Process r && eqb p (process r)) above
 
 pub record Standing (above : List Record) (w : Works) (kilos : List ℕ) : Type 0 where
   pub lines : w .lines ≡ length above
-  pub few : length above ≤ 4096
+  pub few : length above ≤ limits .lines
   pub held : Held limits above (w .count)
   pub goods : HeldGoods above (w .count) (w .outputs) (w .taken) kilos
   pub made : Made above
@@ -180,8 +179,8 @@ module _ (sheet : List ℕ) (start : ℕ) (l : LineRead) (read : ReadAt sheet st
     booked-next : HeldLedger (r ∷ above) (booked (w .ledger) (entry (recordRead l)))
     booked-next = rw read-record (held-booked above (w .ledger) r (rw read-record at small) (s .ledger))
 
-    few-next : suc (length above) ≤ 4096
-    few-next = ltb-false 4096 (suc (length above)) (fine .few)
+    few-next : suc (length above) ≤ limits .lines
+    few-next = ltb-false (limits .lines) (suc (length above)) (fine .few)
 
     -- a line that is no P line and no G line
     standing-other : is Process r ≡ false → is OwnGood r ≡ false → Standing (r ∷ above) (worksAfter w l) (kilosAfter kilos l)

@@ -9,7 +9,7 @@ use lib.Dec.{eqb, ltb, leb}
 use lib.ListN.{length}
 use borrow.Author.Tests.{eqb-true, eqb-false, ltb-true, ltb-false, leb-true, not-false}
 use Rattle.decimal.proofs.Bools.{never, and-both, or-neither, or-either}
-use Rattle.sheet.specs.Limits.{Limits}
+use Rattle.quantity.specs.Limits.{Limits}
 use Rattle.lines.specs.Lines.{Line, linesOf}
 use Rattle.lines.specs.Records.{Field, Record, recordOf, recordsOf, numberAt, is}
 use Rattle.sheet.specs.Kinds.{rules, rulesOf}

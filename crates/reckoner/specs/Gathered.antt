@@ -9,7 +9,7 @@ use Rattle.lines.specs.Records.{Record, recordsOf}
 use Rattle.goods.specs.Settling.{SIZE, PAIRS}
 use Rattle.goods.specs.Sums.{sumTo}
 use Rattle.ledger.specs.Ledger.{Room}
-use Rattle.sheet.specs.Limits.{limits}
+use Rattle.quantity.specs.Limits.{limits}
 use Rattle.sheet.specs.Verdict.{accepted, firstOf, linesChecks, numberOf, lineOf}
 use Rattle.sheet.specs.Code.{refusalNumber}
 use Rattle.reckoner.specs.Attribution.{balance, direct, indirect, boughtDirect, boughtIndirect}

@@ -9,7 +9,7 @@ use lib.Signed.{leZ}
 use lib.ListN.{getD, length, replicate}
 use Rattle.lines.specs.Records.{Record, recordsOf}
 use Rattle.goods.specs.Settling.{SIZE, figures}
-use Rattle.sheet.specs.Limits.{limits}
+use Rattle.quantity.specs.Limits.{limits}
 use Rattle.sheet.specs.Verdict.{firstOf, numberOf, lineOf}
 use Rattle.sheet.specs.Code.{refusalNumber}
 use Rattle.sheet.specs.declared.refusals.Refusal.{Refusal}

@@ -4,7 +4,7 @@ use mathlib.Core.List.{List, [], _∷_, _++_}
 use Prim.Native.Nat.{ℕ, _^_}
 use lib.Dec.{leb}
 use lib.IntN.{natAbs}
-use Rattle.sheet.specs.Limits.{Limits}
+use Rattle.quantity.specs.Limits.{Limits}
 use Rattle.lines.specs.Records.{recordsOf}
 use Rattle.sheet.specs.Verdict.{Check, check, sheetChecks}
 use Rattle.reckoner.specs.Reckoning.{Row, Totals, Reckoning, reckoning}

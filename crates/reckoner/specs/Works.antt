@@ -1,16 +1,15 @@
 -- What the code holds after one line more. Laws join it to document 01's sums; nothing here adds to their meaning.
-use mathlib.Core.Path.{_≡_}
 use mathlib.Core.Bool.{cond}
 use mathlib.Core.List.{List}
-use Prim.Native.Nat.{ℕ, _+_, _*_, _≤_, _<_}
+use Prim.Native.Nat.{ℕ, _+_, _*_, _≤_}
 use lib.Dec.{eqb}
 use lib.ListN.{getD, replicate}
+use Rattle.quantity.specs.Limits.{limits}
 use Rattle.lines.specs.Records.{letter}
 use Rattle.lines.specs.declared.Kind.the-variants.{Process, OwnGood}
 use Rattle.lines.specs.declared.LineRead.{LineRead}
 use Rattle.goods.specs.Settling.{SIZE}
 use Rattle.ledger.specs.Ledger.{Room, added, booked, start}
-use Rattle.ledger.specs.declared.Ledger.{Ledger}
 use Rattle.entries.specs.Entries.{entry}
 use Rattle.entries.specs.Read.{recordRead}
 use Rattle.reckoner.specs.declared.judging.Works.{Works}
@@ -56,13 +55,20 @@ worksAfter w l =
 unfoldable pub kilosAfter : List ℕ → LineRead → List ℕ
 kilosAfter kilos l = cond (eqb (letter (l .kind)) (letter OwnGood)) (pairNoted kilos l) kilos
 
+-- the most kilograms of one field, and of one field of every line
+abbrev pub KILOS : ℕ
+KILOS = Rattle.sheet.specs.Kinds.kilos .highest
+
+abbrev pub MOST : ℕ
+MOST = limits .lines * KILOS
+
 -- there is room for one line more
 pub record Roomy (w : Works) (kilos : List ℕ) : Type 0 where
-  pub lines : w .lines ≤ 4096
-  pub count : w .count ≤ 4096
-  pub outputs : (i : ℕ) → getD (w .outputs) i 0 ≤ 40960000000000
-  pub taken : (i : ℕ) → getD (w .taken) i 0 ≤ 40960000000000
-  pub pairs : (i : ℕ) → getD kilos i 0 ≤ 40960000000000
+  pub lines : w .lines ≤ limits .lines
+  pub count : w .count ≤ limits .lines
+  pub outputs : (i : ℕ) → getD (w .outputs) i 0 ≤ MOST
+  pub taken : (i : ℕ) → getD (w .taken) i 0 ≤ MOST
+  pub pairs : (i : ℕ) → getD kilos i 0 ≤ MOST
   pub ledger : Room (w .ledger)
 
 -- above the first line

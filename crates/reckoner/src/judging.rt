@@ -7,7 +7,7 @@ ghost use lib.ListN.{getD};
 ghost use Rattle.goods.specs.Settling.{SIZE};
 ghost use Rattle.lines.specs.Records.{letter};
 ghost use Rattle.lines.specs.declared.Kind.the-variants.{OwnGood};
-ghost use Rattle.sheet.specs.Limits.{limits};
+ghost use Rattle.quantity.specs.Limits.{limits};
 ghost use Rattle.sheet.specs.Code.{refusalNumber, orderNumber, lineNumber};
 use goods::PAIRS;
 use goods::SIZE;

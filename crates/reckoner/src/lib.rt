@@ -17,8 +17,8 @@ use goods::SIZE;
 use judging::Works;
 use quantity::Grams;
 use quantity::SignedGrams;
+use quantity::limits::BYTES;
 use reading::read_lines;
-use sheet::refusals::BYTES;
 use sheet::refusals::Refusal;
 use sheet::refusals::refusal_number;
 

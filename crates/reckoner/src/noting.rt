@@ -5,9 +5,9 @@ ghost use lib.ListN.{getD};
 ghost use Rattle.goods.specs.Settling.{SIZE};
 ghost use Rattle.ledger.specs.Ledger.{Room, Small};
 ghost use Rattle.entries.specs.Entries.{entry};
-ghost use Rattle.sheet.specs.Limits.{limits};
+ghost use Rattle.quantity.specs.Limits.{limits};
 ghost use Rattle.entries.specs.Read.{recordRead, Shaped};
-ghost use Rattle.reckoner.specs.Works.{lineBooked, outputNoted, goodNoted, pairNoted, worksAfter, kilosAfter, Roomy};
+ghost use Rattle.reckoner.specs.Works.{lineBooked, outputNoted, goodNoted, pairNoted, worksAfter, kilosAfter, KILOS, MOST, Roomy};
 use super::judging::Works;
 use entries::weigh;
 use goods::PAIRS;
@@ -20,7 +20,7 @@ use lines::LineRead;
 fn with_entry(w: Works, l: LineRead) -> Works
     requires { ⌜ Shaped limits (recordRead l) ⌝ }
     requires { ⌜ l .count ≤ 8 ⌝ }
-    requires { ⌜ (w .lines ≤ 4096) × Room (w .ledger) ⌝ }
+    requires { ⌜ (w .lines ≤ limits .lines) × Room (w .ledger) ⌝ }
     ensures works { λ r. ⌜ r ≡ lineBooked w l ⌝ }
     ensures small { λ r. ⌜ Small (entry (recordRead l)) ⌝ }
 {
@@ -35,8 +35,8 @@ fn with_entry(w: Works, l: LineRead) -> Works
 
 // A P line: one process more, and its output.
 fn with_output(w: Works, l: LineRead) -> Works
-    requires { ⌜ (getD (l .words) 0 0 < SIZE) × (getD (l .words) 1 0 ≤ 10000000000) ⌝ }
-    requires { ⌜ (w .count ≤ 4096) × (getD (w .outputs) (getD (l .words) 0 0) 0 ≤ 40960000000000) ⌝ }
+    requires { ⌜ (getD (l .words) 0 0 < SIZE) × (getD (l .words) 1 0 ≤ KILOS) ⌝ }
+    requires { ⌜ (w .count ≤ limits .lines) × (getD (w .outputs) (getD (l .words) 0 0) 0 ≤ MOST) ⌝ }
     ensures { λ r. ⌜ r ≡ outputNoted w l ⌝ }
 {
     let words = l.words;
@@ -49,8 +49,8 @@ fn with_output(w: Works, l: LineRead) -> Works
 
 // A G line: kilograms taken of an output, by one process.
 fn with_good(w: Works, kilos: &mut [u64; PAIRS], l: LineRead) -> Works
-    requires { ⌜ (getD (l .words) 0 0 < SIZE) × ((getD (l .words) 1 0 < SIZE) × (getD (l .words) 2 0 ≤ 10000000000)) ⌝ }
-    requires { ⌜ (getD (w .taken) (getD (l .words) 0 0) 0 ≤ 40960000000000) × (getD (now kilos) (getD (l .words) 0 0 * SIZE + getD (l .words) 1 0) 0 ≤ 40960000000000) ⌝ }
+    requires { ⌜ (getD (l .words) 0 0 < SIZE) × ((getD (l .words) 1 0 < SIZE) × (getD (l .words) 2 0 ≤ KILOS)) ⌝ }
+    requires { ⌜ (getD (w .taken) (getD (l .words) 0 0) 0 ≤ MOST) × (getD (now kilos) (getD (l .words) 0 0 * SIZE + getD (l .words) 1 0) 0 ≤ MOST) ⌝ }
     ensures works { λ r. ⌜ r ≡ goodNoted w l ⌝ }
     ensures pairs { λ r. ⌜ now (kilos .exit) ≡ pairNoted (now (kilos .entry)) l ⌝ }
 {

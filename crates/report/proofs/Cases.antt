@@ -24,7 +24,7 @@ use Rattle.report.specs.Report.{specific, reportOf}
 use Rattle.report.specs.Spelling.{threeDigits, spellFigure, spellFigures, spellLines, rowLine, totalLine, reportBytes}
 use Rattle.report.specs.Cases.{printed, given}
 use Rattle.decimal.specs.Text.{bytes}
-use Rattle.sheet.specs.Limits.{limits}
+use Rattle.quantity.specs.Limits.{limits}
 
 pub printed-hold : map (λ p. carbon limits (bytes (p .sheet))) printed ≡ map (λ p. bytes (p .text)) printed
 unfolding printed

@@ -8,7 +8,7 @@ use borrow.Author.Tests.{ltb-false}
 use lib.IntN.{pos, _+ℤ_}
 use lib.Signed.{_<ℤ_}
 use lib.ListN.{length, drop, length-append, length-drop}
-use Rattle.sheet.specs.Limits.{Limits}
+use Rattle.quantity.specs.Limits.{Limits}
 use Rattle.lines.specs.Records.{recordsOf}
 use Rattle.sheet.specs.Verdict.{check, Verdict, accepted, refused, sheetChecks}
 use Rattle.sheet.proofs.First.{All, all-append, Passes, First, accepted-iff, refused-iff, decided}

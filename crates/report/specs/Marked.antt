@@ -7,7 +7,7 @@ use Rattle.quantity.specs.Rounding.{round}
 use Rattle.quantity.specs.Streams.{combustionGrams, processGrams, carbonGrams}
 use Rattle.quantity.specs.Standard.{standardA, standardB}
 use Rattle.quantity.specs.Weights.{weight, wasteGasCharge, wasteGasCredit}
-use Rattle.sheet.specs.Limits.{limits}
+use Rattle.quantity.specs.Limits.{limits}
 use Rattle.goods.specs.Goods.{Taker, taker, portion, left}
 use Rattle.report.specs.Outcome.{carbon}
 

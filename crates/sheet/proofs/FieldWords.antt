@@ -15,7 +15,7 @@ use Rattle.lines.specs.Records.{Field, number, dash, other}
 use Rattle.lines.specs.Words.{CAP, DASH, OTHER, word, words}
 use Rattle.lines.specs.declared.Kind.{Kind}
 use Rattle.lines.specs.declared.Kind.the-variants.{Process, SourceStream, Heat, WasteGas, Power, BoughtPrecursor, OwnGood, Unknown}
-use Rattle.sheet.specs.Limits.{Limits}
+use Rattle.quantity.specs.Limits.{Limits}
 use Rattle.sheet.specs.Kinds.{Rule, _to_, exactly, methodRules, processNumber, rules}
 use Rattle.sheet.specs.Refusals.{notNumber, outOfRange}
 use Rattle.sheet.specs.Verdict.{Check, check, refused, firstOf, numberOf, fieldChecks}

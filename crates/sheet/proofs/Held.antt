@@ -12,7 +12,7 @@ use Rattle.lines.specs.Lines.{Line}
 use Rattle.lines.specs.Records.{Field, Record, recordOf, letter, field, is}
 use Rattle.lines.specs.declared.Kind.{Kind}
 use Rattle.lines.specs.declared.Kind.the-variants.{Process, SourceStream, Heat, WasteGas, Power, BoughtPrecursor, OwnGood, Unknown}
-use Rattle.sheet.specs.Limits.{Limits}
+use Rattle.quantity.specs.Limits.{Limits}
 use Rattle.sheet.specs.Kinds.{Rule, exactly, processNumber, rules}
 use Rattle.sheet.specs.Refusals.{anyOf, sumOf, process, from, to, outputIn, takenIn, hasProcess}
 use Rattle.sheet.specs.Verdict.{accepted, firstOf, lineChecks}

@@ -16,7 +16,7 @@ use Rattle.lines.specs.Words.{CAP, words, lineLength, lineAt, ReadAt}
 use Rattle.lines.specs.declared.LineRead.{LineRead}
 use Rattle.lines.specs.declared.Kind.{Kind}
 use Rattle.lines.specs.declared.Kind.the-variants.{Process, SourceStream, Heat, WasteGas, Power, BoughtPrecursor, OwnGood, Unknown}
-use Rattle.sheet.specs.Limits.{Limits}
+use Rattle.quantity.specs.Limits.{Limits}
 use Rattle.sheet.specs.Kinds.{Rule, rulesOf, namedFields}
 use Rattle.sheet.specs.Refusals.{anyOf, sumOf, from, to, outputIn, takenIn, hasProcess, tooManyLines, lacksLF, unknownKind, processNotNext, missingProcess, endsOf, endsNotAllowed, noStandardValue, secondOfPair, outputExceeded}
 use Rattle.sheet.specs.Verdict.{Check, check, accepted, refused, firstOf, numberOf, fieldChecks, lineChecks}

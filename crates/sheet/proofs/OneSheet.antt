@@ -6,7 +6,7 @@ use Prim.Native.Nat.{ℕ, suc}
 use native.Mathlib.Omega.{arith}
 use lib.ListN.{length}
 use Rattle.decimal.proofs.Bools.{never}
-use Rattle.sheet.specs.Limits.{Limits}
+use Rattle.quantity.specs.Limits.{Limits}
 use Rattle.lines.specs.Lines.{Line, linesOf}
 use Rattle.lines.specs.Records.{Field, number, dash, other, Record, recordOf, recordsOf}
 use Rattle.sheet.specs.Kinds.{Rule}

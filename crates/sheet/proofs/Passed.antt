@@ -8,7 +8,7 @@ use borrow.Author.Tests.{eqb-true, eqb-false, ltb-false, not-false}
 use lib.Dec.{eqb, ltb}
 use lib.ListN.{length, getD}
 use Rattle.decimal.proofs.Bools.{never, or-neither}
-use Rattle.sheet.specs.Limits.{Limits}
+use Rattle.quantity.specs.Limits.{Limits}
 use Rattle.lines.specs.Lines.{Line, linesOf}
 use Rattle.lines.specs.Records.{Field, number, dash, other, Record, recordOf, numberIn}
 use Rattle.sheet.specs.Kinds.{Rule, _to_, rulesOf}

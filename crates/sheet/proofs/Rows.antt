@@ -12,7 +12,7 @@ use lib.Seq.{drop-cons}
 use Rattle.lines.specs.Records.{Field, number, dash, other, letter}
 use Rattle.lines.specs.declared.Kind.{Kind}
 use Rattle.lines.specs.declared.Kind.the-variants.{Process, SourceStream, Heat, WasteGas, Power, BoughtPrecursor, OwnGood, Unknown}
-use Rattle.sheet.specs.Limits.{Limits}
+use Rattle.quantity.specs.Limits.{Limits}
 use Rattle.sheet.specs.Kinds.{Rule, exactly, burning, processEmission, carbon, noMethod, methodRules, rules}
 use Rattle.sheet.specs.Code.{eight, row, orElse, wordNumber, wordsNumber, wordRules, fieldsNumber}
 use Rattle.sheet.specs.declared.rules.Rules.{Rules}

@@ -15,7 +15,7 @@ use Rattle.lines.specs.Records.{Field, number, dash, other, Record, letter, fie
 use Rattle.lines.specs.Words.{CAP, DASH, OTHER, word, words}
 use Rattle.lines.specs.declared.Kind.{Kind}
 use Rattle.lines.specs.declared.Kind.the-variants.{Unknown}
-use Rattle.sheet.specs.Limits.{Limits}
+use Rattle.quantity.specs.Limits.{Limits}
 use Rattle.sheet.specs.Kinds.{Rule, exactly, rules, rulesOf}
 use Rattle.sheet.specs.Refusals.{tooManyLines, saysDash}
 use Rattle.sheet.specs.Code.{orElse, wordNumber, wordsNumber, wordRules, fieldsNumber, shapeNumber, InRange, FitsBy, Fitting}

@@ -3,7 +3,7 @@
 use mathlib.Core.List.{List, [], _∷_}
 use Prim.Native.String.{String}
 use Rattle.decimal.specs.Text.{bytes}
-use Rattle.sheet.specs.Limits.{Limits, limits}
+use Rattle.quantity.specs.Limits.{Limits, limits}
 use Rattle.sheet.specs.Verdict.{Verdict, accepted, refused, firstOf, sheetChecks}
 
 pub record Example : Type 0 where

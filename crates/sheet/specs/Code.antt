@@ -11,7 +11,7 @@ use Rattle.lines.specs.Records.{number, letter}
 use Rattle.lines.specs.Words.{DASH, OTHER}
 use Rattle.lines.specs.declared.Kind.{Kind}
 use Rattle.lines.specs.declared.Kind.the-variants.{Process, SourceStream, OwnGood, Unknown}
-use Rattle.sheet.specs.Limits.{Limits}
+use Rattle.quantity.specs.Limits.{Limits}
 use Rattle.sheet.specs.Kinds.{Rule, rules, namedFields}
 use Rattle.sheet.specs.Refusals.{tooManyLines, endsOf}
 use Rattle.sheet.specs.declared.refusals.Refusal.{Refusal}

@@ -1,5 +1,4 @@
 -- Document 01, "The sheet" and "Sheets sent back", in the paper's order.
-pub mod Limits
 pub mod Kinds
 pub mod Refusals
 pub mod Verdict

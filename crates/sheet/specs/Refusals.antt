@@ -4,7 +4,7 @@ use mathlib.Core.List.{List, [], _∷_}
 use Prim.Native.Nat.{ℕ, suc, _+_}
 use lib.Dec.{eqb, ltb, leb}
 use lib.ListN.{length}
-use Rattle.sheet.specs.Limits.{Limits}
+use Rattle.quantity.specs.Limits.{Limits}
 use Rattle.lines.specs.Lines.{Line}
 use Rattle.lines.specs.Records.{Field, number, dash, other, Record, field, numberAt, is}
 use Rattle.sheet.specs.Kinds.{Rule, rulesOf, namedFields}

@@ -4,7 +4,7 @@ use mathlib.Core.Bool.{Bool, cond}
 use mathlib.Core.List.{List, [], _∷_, _++_}
 use Prim.Native.Nat.{ℕ, suc}
 use lib.ListN.{length}
-use Rattle.sheet.specs.Limits.{Limits}
+use Rattle.quantity.specs.Limits.{Limits}
 use Rattle.lines.specs.Lines.{Line, linesOf, lineBytes}
 use Rattle.lines.specs.Records.{Field, Record, recordOf}
 use Rattle.sheet.specs.Kinds.{Rule, rulesOf}

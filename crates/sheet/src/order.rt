@@ -4,7 +4,7 @@ ghost use mathlib.Core.Bool.{cond, _&&_, _||_, not};
 ghost use Prim.Native.Nat.{suc, _+_};
 ghost use lib.Dec.{eqb, ltb, leb};
 ghost use Rattle.lines.specs.Words.{DASH};
-ghost use Rattle.sheet.specs.Limits.{limits};
+ghost use Rattle.quantity.specs.Limits.{limits};
 ghost use Rattle.sheet.specs.Code.{refusalNumber, endsNumber, orderNumber};
 use super::refusals::Refusal;
 use super::refusals::or_else;

@@ -1,15 +1,6 @@
-// Document 01, "Sheets sent back": the rows of its table, and the limits of a sheet.
+// Document 01, "Sheets sent back": the rows of its table.
 ghost use mathlib.Core.Path.{_≡_};
 ghost use Rattle.sheet.specs.Code.{refusalNumber, orElse};
-
-// Processes are numbered 1 to this.
-pub const PROCESSES: usize = 16;
-
-// Lines of a sheet.
-pub const LINES: usize = 4096;
-
-// Bytes of a sheet.
-pub const BYTES: usize = 65536;
 
 // What is wrong with a sheet, in the order of the table, or that nothing is.
 pub enum Refusal {

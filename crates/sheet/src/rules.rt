@@ -2,11 +2,11 @@
 ghost use mathlib.Core.Path.{_≡_};
 ghost use Prim.Native.Nat.{_≤_};
 ghost use Rattle.lines.specs.Records.{number};
-ghost use Rattle.sheet.specs.Limits.{limits};
+ghost use Rattle.quantity.specs.Limits.{limits};
 ghost use Rattle.sheet.specs.Kinds.{rules};
 ghost use Rattle.sheet.specs.Code.{row};
-use super::refusals::PROCESSES;
 use lines::Kind;
+use quantity::limits::PROCESSES;
 
 // How many fields follow the first; the lowest and the highest number of each, and whether `-` may stand for it.
 pub struct Rules {

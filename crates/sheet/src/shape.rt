@@ -2,9 +2,8 @@
 ghost use mathlib.Core.Path.{_≡_};
 ghost use mathlib.Core.Bool.{not};
 ghost use lib.Dec.{eqb};
-ghost use Rattle.sheet.specs.Limits.{limits};
+ghost use Rattle.quantity.specs.Limits.{limits};
 ghost use Rattle.sheet.specs.Code.{refusalNumber, wordNumber, fieldsNumber, shapeNumber};
-use super::refusals::LINES;
 use super::refusals::Refusal;
 use super::refusals::refusal_number;
 use super::rules::rules_of;
@@ -12,6 +11,7 @@ use lines::DASH;
 use lines::Kind;
 use lines::LineRead;
 use lines::OTHER;
+use quantity::limits::LINES;
 
 // Rows 6 and 7: a field's word by its rule.
 fn field_refusal(word: u64, lowest: u64, highest: u64, dash: bool) -> Refusal

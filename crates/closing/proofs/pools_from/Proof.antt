@@ -3,7 +3,6 @@
 use mathlib.Core.Path.{_≡_, sym}
 use Prim.Native.Nat.{ℕ, _≤_}
 use native.Mathlib.Omega.{arith}
-use lib.ListN.{getD}
 use denote.Ref.{now}
 use Rattle.goods.specs.Settling.{figures, pairs, Settleable}
 use Rattle.closing.specs.Closing.{together}

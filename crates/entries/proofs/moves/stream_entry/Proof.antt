@@ -2,20 +2,14 @@ use mathlib.Core.Path.{_≡_, ap₂}
 use Prim.Native.Nat.{ℕ}
 use native.Mathlib.Omega.{arith}
 use borrow.Author.Needs.{needs}
-use mir.Syntax.{w64}
-use mir.Val.{toZ, ofZ}
 use Rattle.ledger.specs.Raising.{raisedToZero, gramsAdded}
-use Rattle.ledger.proofs.Sizes.{kept}
 use Rattle.entries.specs.Entries.{moved}
 use Rattle.entries.proofs.Amounts.{raised-small, added-small}
 use Rattle.entries.proofs.moves.stream_entry.Statement.{statement}
 use Rattle.entries.proofs.moves.stream_entry.Tie as tie
 
-same : (c : tie.Start) → toZ w64 (ofZ w64 (c .args .grams .0)) ≡ c .args .grams .0
-same c = kept (c .args .grams .0) (omega (arith, c .pre .1))
-
 raise-requires : tie.Need-raise-requires
-raise-requires c κs = simp (same (c .before)) (omega (arith, c .before .pre .1))
+raise-requires c κs = omega (arith, c .pre .1)
 
 nothing-requires : tie.Need-nothing-requires
 nothing-requires c κs = search needs
@@ -23,9 +17,9 @@ nothing-requires c κs = search needs
 returns : tie.Need-returns
 returns c =
     let k = c .before .before .before in
-    let s = k .before .before in
+    let s = k .before in
     let z = s .args .grams .0 in
-    let e : (k .raise .result .direct .0 ≡ raisedToZero z) × (k .raise .result .raised .0 ≡ gramsAdded z) = simp (same s) at (k .raise .ensures) in
+    let e : (k .raise .result .direct .0 ≡ raisedToZero z) × (k .raise .result .raised .0 ≡ gramsAdded z) = k .raise .ensures in
     let plus = raised-small z in
     let minus = added-small z in
     rw (c .nothing .ensures .0) (

@@ -1,6 +1,5 @@
 -- `plus` meets its contract: the grams fit 63 bits. Assumes nothing.
 use borrow.Author.Needs.{needs}
-use Prim.Native.Nat.{_≤_}
 use Rattle.quantity.proofs.Methods.{plus-bits}
 use Rattle.quantity.proofs.streams.plus.Statement.{statement}
 use Rattle.quantity.proofs.streams.plus.Tie as tie

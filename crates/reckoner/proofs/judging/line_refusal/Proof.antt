@@ -1,6 +1,6 @@
-use mathlib.Core.Path.{_≡_, sym, _∙_}
+use mathlib.Core.Path.{sym, _∙_}
 use borrow.Author.Needs.{needs}
-use Rattle.reckoner.proofs.Judged.{else-first, else-next, order-no-good, Placed, good-placed}
+use Rattle.reckoner.proofs.Judged.{else-first, else-next, order-no-good, good-placed}
 use Rattle.reckoner.proofs.judging.line_refusal.Statement.{statement}
 use Rattle.reckoner.proofs.judging.line_refusal.Tie as tie
 use Rattle.reckoner.proofs.judging.line_refusal.Reads as reads

@@ -1,11 +1,11 @@
-use mathlib.Core.Path.{_≡_, refl, sym, ap, _∙_}
+use mathlib.Core.Path.{sym, ap, _∙_}
 use Prim.Native.Nat.{_-_}
 use native.Mathlib.Omega.{arith}
 use lib.ListN.{length}
 use denote.Ref.{now}
 use Rattle.sheet.specs.Verdict.{numberOf, lineOf}
 use borrow.Author.Needs.{needs}
-use Rattle.reckoner.proofs.AllLines.{Reading, reading-start, accepted-here, refused-here, shaped-here, few-here, end-here, reading-next, reading-verdict}
+use Rattle.reckoner.proofs.AllLines.{Reading, reading-start, accepted-here, refused-here, shaped-here, few-here, reading-next, reading-verdict}
 use Rattle.reckoner.proofs.Gathering.{gathered}
 use Rattle.reckoner.proofs.Standing.{roomy}
 use Rattle.reckoner.proofs.reading.read_lines.Statement.{statement}

@@ -9,7 +9,7 @@ use lib.ListN.{getD}
 use Rattle.lines.specs.Words.{DASH}
 use Rattle.lines.specs.declared.Kind.{Kind}
 use Rattle.lines.specs.declared.Kind.the-variants.{SourceStream, BoughtPrecursor, OwnGood}
-use Rattle.sheet.specs.Limits.{limits}
+use Rattle.quantity.specs.Limits.{limits}
 use Rattle.sheet.specs.Code.{orElse, endsNumber, orderNumber}
 use borrow.Author.Needs.{needs}
 use Rattle.sheet.proofs.order.order_refusal.Statement.{statement}

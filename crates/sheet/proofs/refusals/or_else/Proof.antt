@@ -1,5 +1,5 @@
 -- `or_else` meets its contract. Assumes nothing.
-use mathlib.Core.Path.{_≡_, refl, sym, ap, _∙_}
+use mathlib.Core.Path.{sym, _∙_}
 use Rattle.sheet.specs.Code.{refusalNumber}
 use Rattle.sheet.proofs.Rows.{else-first, else-next}
 use borrow.Author.Needs.{needs}

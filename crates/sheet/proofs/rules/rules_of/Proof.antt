@@ -2,7 +2,7 @@
 use mathlib.Core.Path.{sym, ap, _∙_}
 use Rattle.lines.specs.Records.{number}
 use Rattle.lines.specs.declared.Kind.{Kind}
-use Rattle.sheet.specs.Limits.{limits}
+use Rattle.quantity.specs.Limits.{limits}
 use Rattle.sheet.specs.Kinds.{rules}
 use Rattle.sheet.specs.Code.{row}
 use borrow.Author.Needs.{needs}

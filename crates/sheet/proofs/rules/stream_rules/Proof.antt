@@ -4,7 +4,7 @@ use Prim.Native.Nat.{ℕ}
 use borrow.Author.Tests.{ne-eqb}
 use Rattle.lines.specs.Records.{number}
 use Rattle.lines.specs.declared.Kind.the-variants.{SourceStream}
-use Rattle.sheet.specs.Limits.{limits}
+use Rattle.quantity.specs.Limits.{limits}
 use Rattle.sheet.specs.Kinds.{methodRules, rules}
 use Rattle.sheet.specs.Code.{row}
 use Rattle.sheet.specs.declared.rules.Rules.{Rules}

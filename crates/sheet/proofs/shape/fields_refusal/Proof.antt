@@ -2,7 +2,7 @@
 use mathlib.Core.List.{List}
 use Rattle.sheet.specs.Code.{refusalNumber, orElse, fieldsNumber}
 use Rattle.sheet.specs.declared.rules.Rules.{Rules}
-use Rattle.sheet.specs.Limits.{limits}
+use Rattle.quantity.specs.Limits.{limits}
 use borrow.Author.Needs.{needs}
 use Prim.Native.Nat.{ℕ, _+_, _-_, _≤_, _<_}
 use native.Mathlib.Omega.{arith}
