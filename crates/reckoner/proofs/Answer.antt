@@ -19,13 +19,13 @@ use Rattle.sheet.proofs.Passed.{lines-fine}
 use Rattle.closing.specs.Closing.{Closed, anyLarge}
 use Rattle.closing.specs.declared.Closing.{Closing}
 use Rattle.goods.specs.Settling.{figures}
-use Rattle.reckoner.specs.Reckoning.{reckoning}
-use Rattle.reckoner.specs.Verdict.{figureTooLarge, reckonerChecks}
+use Rattle.attribution.specs.Reckoning.{reckoning}
+use Rattle.attribution.specs.Verdict.{figureTooLarge, reckonerChecks}
 use Rattle.reckoner.specs.Gathered.{ReadOf}
 use Rattle.reckoner.specs.Reckoned.{FiguresOf, Reckoned, refusedBy, acceptedAs, largeTotals, large}
 use Rattle.reckoner.specs.declared.reading.Read.{Read}
-use Rattle.reckoner.proofs.Valid.{Accepted, sheet-accepted}
-use Rattle.reckoner.proofs.Works.{left-is-entered-raised-uncredited}
+use Rattle.attribution.proofs.Valid.{Accepted, sheet-accepted}
+use Rattle.attribution.proofs.Works.{left-is-entered-raised-uncredited}
 use Rattle.reckoner.proofs.AllLines.{first-rest, first-here}
 use Rattle.reckoner.proofs.Fits.{none-large, RowBelow, row-below, left-total, no-figure-too-large}
 use Rattle.reckoner.proofs.Figured.{figures-is}

@@ -7,10 +7,10 @@ use lib.ListN.{length}
 use Rattle.lines.specs.Records.{Record}
 use Rattle.sheet.specs.Refusals.{sumOf, outputIn, takenIn}
 use Rattle.ledger.specs.declared.Ledger.{Ledger}
-use Rattle.reckoner.specs.Reckoning.{processCount, kilosBetween}
-use Rattle.reckoner.proofs.Differences.{diff}
-use Rattle.reckoner.proofs.Entries.{plus, minus}
-use Rattle.reckoner.proofs.Bounds.{intoProcesses, outOfProcesses}
+use Rattle.attribution.specs.Reckoning.{processCount, kilosBetween}
+use Rattle.attribution.proofs.Differences.{diff}
+use Rattle.attribution.proofs.Entries.{plus, minus}
+use Rattle.attribution.proofs.Bounds.{intoProcesses, outOfProcesses}
 use Rattle.reckoner.proofs.HeldLedger.{HeldLedger}
 use Rattle.reckoner.proofs.HeldGoods.{HeldGoods}
 

@@ -12,12 +12,12 @@ use Rattle.goods.proofs.Same.{pool-cong, left-cong}
 use Rattle.ledger.specs.Raising.{raisedToZero}
 use Rattle.closing.specs.Closing.{Holds, Closed}
 use Rattle.closing.specs.declared.Closing.{Closing}
-use Rattle.reckoner.specs.Attribution.{direct, indirect}
-use Rattle.reckoner.specs.Reckoning.{processCount, output, kilosBetween, directPool, indirectPool, directLeft, indirectLeft, totalLeft}
+use Rattle.attribution.specs.Attribution.{direct, indirect}
+use Rattle.attribution.specs.Reckoning.{processCount, output, kilosBetween, directPool, indirectPool, directLeft, indirectLeft, totalLeft}
 use Rattle.reckoner.specs.Gathered.{Gathered}
 use Rattle.reckoner.specs.Reckoned.{Column, FiguresOf, acceptedAs}
 use Rattle.reckoner.specs.declared.judging.Works.{Works}
-use Rattle.reckoner.proofs.Valid.{Accepted}
+use Rattle.attribution.proofs.Valid.{Accepted}
 use Rattle.reckoner.proofs.Ready.{own-direct-is, own-indirect-is, raised-is, pairs-is, raised-sum}
 
 module _ (rs : List Record) (w : Works) (kilos : List ℕ) (g : Gathered rs w kilos) (ok : Accepted rs) (c : Closing)

@@ -14,13 +14,13 @@ use Rattle.goods.specs.Goods.{poolOf, leftOf}
 use Rattle.goods.proofs.Sums.{sum-mono, sum-suc}
 use Rattle.goods.proofs.Pools.{pool-le, left-is, left-sum}
 use Rattle.closing.specs.Closing.{anyLarge}
-use Rattle.reckoner.specs.Attribution.{direct, indirect, raised, boughtDirect, boughtIndirect}
-use Rattle.reckoner.specs.Reckoning.{Row, processCount, output, kilosBetween, directPool, indirectPool, directLeft, indirectLeft, totalLeft, entered, totalRaised, uncredited, rowOf, rowsTo, reckoning}
-use Rattle.reckoner.specs.Verdict.{rowGrams, rowsGrams, anyFrom, figureTooLarge}
+use Rattle.attribution.specs.Attribution.{direct, indirect, raised, boughtDirect, boughtIndirect}
+use Rattle.attribution.specs.Reckoning.{Row, processCount, output, kilosBetween, directPool, indirectPool, directLeft, indirectLeft, totalLeft, entered, totalRaised, uncredited, rowOf, rowsTo, reckoning}
+use Rattle.attribution.specs.Verdict.{rowGrams, rowsGrams, anyFrom, figureTooLarge}
 use Rattle.reckoner.specs.Gathered.{Gathered}
 use Rattle.reckoner.specs.declared.judging.Works.{Works}
-use Rattle.reckoner.proofs.Entries.{forward}
-use Rattle.reckoner.proofs.Valid.{Accepted}
+use Rattle.attribution.proofs.Entries.{forward}
+use Rattle.attribution.proofs.Valid.{Accepted}
 
 -- ---- figures below a limit
 

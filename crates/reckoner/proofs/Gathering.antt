@@ -15,12 +15,12 @@ use Rattle.lines.specs.Records.{Record, recordsOf, is}
 use Rattle.lines.proofs.NextLine.{lines-done}
 use Rattle.ledger.proofs.Bounds.{within-more}
 use Rattle.sheet.specs.Refusals.{sumOf, anyOf, process, outputIn}
-use Rattle.reckoner.specs.Attribution.{indirect}
-use Rattle.reckoner.specs.Reckoning.{processCount, output}
+use Rattle.attribution.specs.Attribution.{indirect}
+use Rattle.attribution.specs.Reckoning.{processCount, output}
 use Rattle.reckoner.specs.Gathered.{Gathered}
 use Rattle.reckoner.specs.declared.judging.Works.{Works}
-use Rattle.reckoner.proofs.Entries.{balance-is, entered-is, figures}
-use Rattle.reckoner.proofs.Bounds.{into-pools-le, raised-le}
+use Rattle.attribution.proofs.Entries.{balance-is, entered-is, figures}
+use Rattle.attribution.proofs.Bounds.{into-pools-le, raised-le}
 use Rattle.reckoner.proofs.HeldLedger.{HeldLedger}
 use Rattle.reckoner.proofs.HeldGoods.{HeldGoods}
 use Rattle.reckoner.proofs.AnyOrder.{SameSums, same-length, ledger-same, goods-same}

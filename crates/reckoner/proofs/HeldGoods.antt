@@ -19,7 +19,7 @@ use Rattle.goods.specs.Settling.{SIZE}
 use Rattle.ledger.specs.Ledger.{added}
 use Rattle.ledger.proofs.Bounds.{each-same}
 use Rattle.ledger.proofs.Places.{place-added}
-use Rattle.reckoner.specs.Reckoning.{kilosOf, processCount, kilosBetween}
+use Rattle.attribution.specs.Reckoning.{kilosOf, processCount, kilosBetween}
 use Rattle.reckoner.specs.Works.{KILOS}
 
 pub record HeldGoods (above : List Record) (count : ℕ) (outputs taken kilos : List ℕ) : Type 0 where

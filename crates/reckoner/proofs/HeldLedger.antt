@@ -14,9 +14,9 @@ use Rattle.ledger.specs.declared.Ledger.{Ledger}
 use Rattle.ledger.proofs.Bounds.{within-start, within-booked, sized-start, sized-booked, each-same}
 use Rattle.ledger.proofs.Places.{balance-booked, indirect-booked, bought-direct-booked, bought-indirect-booked}
 use Rattle.entries.specs.Entries.{entry}
-use Rattle.reckoner.proofs.Differences.{diff, diff-pos, diff-plus, diff-minus, diff-eq}
-use Rattle.reckoner.proofs.Entries.{plus, minus}
-use Rattle.reckoner.proofs.Bounds.{intoProcesses, outOfProcesses}
+use Rattle.attribution.proofs.Differences.{diff, diff-pos, diff-plus, diff-minus, diff-eq}
+use Rattle.attribution.proofs.Entries.{plus, minus}
+use Rattle.attribution.proofs.Bounds.{intoProcesses, outOfProcesses}
 
 -- the figures are the sums over the entries of the lines above, and each line added at most STEP to each
 pub record HeldLedger (above : List Record) (l : Ledger) : Type 0 where

@@ -9,12 +9,12 @@ use Rattle.goods.specs.Settling.{SIZE, figures, pairs, Settleable}
 use Rattle.goods.proofs.Sums.{sum-ext, sum-cong}
 use Rattle.ledger.specs.Raising.{raisedToZero, gramsAdded}
 use Rattle.closing.specs.Closing.{Ready, ownDirect, ownIndirect, raisedOf}
-use Rattle.reckoner.specs.Attribution.{direct, indirect, raised, boughtDirect, boughtIndirect}
-use Rattle.reckoner.specs.Reckoning.{processCount, kilosBetween, totalRaised}
+use Rattle.attribution.specs.Attribution.{direct, indirect, raised, boughtDirect, boughtIndirect}
+use Rattle.attribution.specs.Reckoning.{processCount, kilosBetween, totalRaised}
 use Rattle.reckoner.specs.Gathered.{Gathered}
 use Rattle.reckoner.specs.declared.judging.Works.{Works}
-use Rattle.reckoner.proofs.Entries.{forward}
-use Rattle.reckoner.proofs.Valid.{Accepted}
+use Rattle.attribution.proofs.Entries.{forward}
+use Rattle.attribution.proofs.Valid.{Accepted}
 
 module _ (rs : List Record) (w : Works) (kilos : List ℕ) (g : Gathered rs w kilos) (ok : Accepted rs) where
   abbrev n : ℕ

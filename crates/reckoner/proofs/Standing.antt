@@ -31,7 +31,7 @@ use Rattle.entries.specs.Entries.{entry}
 use Rattle.entries.specs.Read.{recordRead, Shaped}
 use Rattle.entries.proofs.ReadBack.{rules-fit, record-back}
 use Rattle.entries.proofs.KindWords.{process-words, goods-words}
-use Rattle.reckoner.specs.Reckoning.{kilosOf, kilosBetween}
+use Rattle.attribution.specs.Reckoning.{kilosOf, kilosBetween}
 use Rattle.reckoner.specs.declared.judging.Works.{Works}
 use Rattle.reckoner.specs.Works.{worksAfter, kilosAfter, Roomy}
 use Rattle.reckoner.proofs.HeldLedger.{HeldLedger, held-booked}

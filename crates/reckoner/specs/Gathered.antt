@@ -12,8 +12,8 @@ use Rattle.ledger.specs.Ledger.{Room}
 use Rattle.quantity.specs.Limits.{limits}
 use Rattle.sheet.specs.Verdict.{accepted, firstOf, linesChecks, numberOf, lineOf}
 use Rattle.sheet.specs.Code.{refusalNumber}
-use Rattle.reckoner.specs.Attribution.{balance, direct, indirect, boughtDirect, boughtIndirect}
-use Rattle.reckoner.specs.Reckoning.{processCount, output, kilosBetween, entered, totalRaised, uncredited}
+use Rattle.attribution.specs.Attribution.{balance, direct, indirect, boughtDirect, boughtIndirect}
+use Rattle.attribution.specs.Reckoning.{processCount, output, kilosBetween, entered, totalRaised, uncredited}
 use Rattle.reckoner.specs.declared.judging.Works.{Works}
 use Rattle.reckoner.specs.declared.reading.Read.{Read}
 

@@ -1,9 +1,4 @@
--- Document 01, "Attribution", "Goods and precursors" and the figures of "The report", in the paper's order.
-pub mod Sums
-pub mod Attribution
-pub mod Reckoning
-pub mod Verdict
+-- What the code of the reckoner promises, in document 01's terms.
 pub mod Works
 pub mod Gathered
 pub mod Reckoned
-pub mod Cases

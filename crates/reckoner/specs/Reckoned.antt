@@ -16,9 +16,9 @@ use Rattle.sheet.specs.declared.refusals.Refusal.{Refusal}
 use Rattle.sheet.specs.declared.refusals.Refusal.the-variants.{Accepted}
 use Rattle.closing.specs.Closing.{anyLarge, Closed}
 use Rattle.closing.specs.declared.Closing.{Closing}
-use Rattle.reckoner.specs.Attribution.{direct, indirect, raised}
-use Rattle.reckoner.specs.Reckoning.{processCount, output, directPool, indirectPool, directLeft, indirectLeft, totalLeft, entered, totalRaised, uncredited}
-use Rattle.reckoner.specs.Verdict.{reckonerChecks}
+use Rattle.attribution.specs.Attribution.{direct, indirect, raised}
+use Rattle.attribution.specs.Reckoning.{processCount, output, directPool, indirectPool, directLeft, indirectLeft, totalLeft, entered, totalRaised, uncredited}
+use Rattle.attribution.specs.Verdict.{reckonerChecks}
 use Rattle.reckoner.specs.declared.judging.Works.{Works}
 use Rattle.reckoner.specs.declared.Reckoning.{Reckoning}
 

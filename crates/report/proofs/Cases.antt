@@ -15,11 +15,11 @@ use Rattle.sheet.specs.Kinds.{methodRules, rules}
 use Rattle.sheet.specs.Refusals.{anyOf, sumOf}
 use Rattle.sheet.specs.Verdict.{firstOf, fieldChecks, lineChecks, linesChecks, sheetChecks}
 use Rattle.goods.specs.Sums.{sumTo, onlyAt}
-use Rattle.reckoner.specs.Sums.{sumOfℤ}
+use Rattle.attribution.specs.Sums.{sumOfℤ}
 use Rattle.entries.specs.Weighed.{streamOf, heatOf, chargeOf, creditOf, powerOf, boughtDirectOf, boughtIndirectOf}
-use Rattle.reckoner.specs.Attribution.{streams, heatIn, heatOut, gasCharged, gasCredited, powerIn, powerOut, boughtDirect, boughtIndirect, balance, raised, direct, indirect}
-use Rattle.reckoner.specs.Reckoning.{kilosOf, processCount, output, kilosBetween, directPool, indirectPool, directLeft, indirectLeft, totalLeft, entered, totalRaised, uncredited, rowsTo, reckoning}
-use Rattle.reckoner.specs.Verdict.{rowsGrams, anyFrom, figureTooLarge, reckonerChecks}
+use Rattle.attribution.specs.Attribution.{streams, heatIn, heatOut, gasCharged, gasCredited, powerIn, powerOut, boughtDirect, boughtIndirect, balance, raised, direct, indirect}
+use Rattle.attribution.specs.Reckoning.{kilosOf, processCount, output, kilosBetween, directPool, indirectPool, directLeft, indirectLeft, totalLeft, entered, totalRaised, uncredited, rowsTo, reckoning}
+use Rattle.attribution.specs.Verdict.{rowsGrams, anyFrom, figureTooLarge, reckonerChecks}
 use Rattle.report.specs.Report.{specific, reportOf}
 use Rattle.report.specs.Spelling.{threeDigits, spellFigure, spellFigures, spellLines, rowLine, totalLine, reportBytes}
 use Rattle.report.specs.Cases.{printed, given}

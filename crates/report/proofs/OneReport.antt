@@ -3,7 +3,7 @@ use mathlib.Core.Path.{_≡_, refl, sym, ap, _∙_}
 use mathlib.Core.List.{List, [], _∷_, _++_, map}
 use native.Mathlib.Omega.{arith}
 use lib.IntN.{ℤ, pos, negsuc}
-use Rattle.reckoner.specs.Reckoning.{Totals}
+use Rattle.attribution.specs.Reckoning.{Totals}
 use Rattle.report.specs.Report.{ReportRow, Report}
 use Rattle.report.specs.Spelling.{signed, ReportLine, spellLines, rowLine, totalLine, reportBytes}
 use Rattle.report.proofs.Reading.{cut, readLines, readSigned, readRow, readTotals, rowsIn, totalsIn, readReport, line-back}

@@ -12,10 +12,10 @@ use Rattle.quantity.specs.Limits.{Limits}
 use Rattle.lines.specs.Records.{recordsOf}
 use Rattle.sheet.specs.Verdict.{check, Verdict, accepted, refused, sheetChecks}
 use Rattle.sheet.proofs.First.{All, all-append, Passes, First, accepted-iff, refused-iff, decided}
-use Rattle.reckoner.specs.Reckoning.{reckoning}
-use Rattle.reckoner.specs.Verdict.{figureTooLarge, reckonerChecks}
-use Rattle.reckoner.proofs.Exact.{NothingAdded}
-use Rattle.reckoner.proofs.Sheet.{totalsOf, third-property, third-property-exact, third-property-greater}
+use Rattle.attribution.specs.Reckoning.{reckoning}
+use Rattle.attribution.specs.Verdict.{figureTooLarge, reckonerChecks}
+use Rattle.attribution.proofs.Exact.{NothingAdded}
+use Rattle.attribution.proofs.Sheet.{totalsOf, third-property, third-property-exact, third-property-greater}
 use Rattle.report.specs.Outcome.{sheetReport, spaceTooShort, allChecks, verdict, outcome}
 
 module _ (limits : Limits) (sheet space : List ℕ) where

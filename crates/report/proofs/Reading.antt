@@ -11,7 +11,7 @@ use lib.ListN.{getD}
 use Rattle.decimal.specs.Number.{valueFrom, value}
 use Rattle.decimal.specs.Spelling.{spelling}
 use Rattle.decimal.proofs.Spelling.{spell-ind, value-append, spelling-value}
-use Rattle.reckoner.specs.Reckoning.{Totals}
+use Rattle.attribution.specs.Reckoning.{Totals}
 use Rattle.report.specs.Report.{ReportRow, Report}
 use Rattle.report.specs.Spelling.{Figure, whole, minus, thousandths, threeDigits, spellFigure, ReportLine, reportLine, spellFigures, spellLines}
 

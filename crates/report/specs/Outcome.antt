@@ -8,8 +8,8 @@ use Rattle.decimal.specs.Spelling.{spelling}
 use Rattle.quantity.specs.Limits.{Limits}
 use Rattle.lines.specs.Records.{recordsOf}
 use Rattle.sheet.specs.Verdict.{Check, check, Verdict, accepted, refused, firstOf}
-use Rattle.reckoner.specs.Reckoning.{reckoning}
-use Rattle.reckoner.specs.Verdict.{reckonerChecks}
+use Rattle.attribution.specs.Reckoning.{reckoning}
+use Rattle.attribution.specs.Verdict.{reckonerChecks}
 use Rattle.report.specs.Report.{reportOf}
 use Rattle.report.specs.Spelling.{reportBytes}
 

@@ -1,7 +1,7 @@
 -- Document 01, "The report": its values.
 use mathlib.Core.List.{List, map}
 use Prim.Native.Nat.{ℕ, _*_, _/_}
-use Rattle.reckoner.specs.Reckoning.{Row, Totals, Reckoning}
+use Rattle.attribution.specs.Reckoning.{Row, Totals, Reckoning}
 
 -- pool/output in g/kg, in thousandths, cut down (CBAM annex III, equations 50, 51 and 57)
 unfoldable pub specific : (pool output : ℕ) → ℕ

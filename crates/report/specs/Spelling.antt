@@ -3,7 +3,7 @@ use mathlib.Core.List.{List, [], _∷_, _++_, map}
 use Prim.Native.Nat.{ℕ, suc, _+_, _/_, _%_}
 use lib.IntN.{ℤ, pos, negsuc}
 use Rattle.decimal.specs.Spelling.{spelling}
-use Rattle.reckoner.specs.Reckoning.{Totals}
+use Rattle.attribution.specs.Reckoning.{Totals}
 use Rattle.report.specs.Report.{ReportRow, Report}
 
 -- a field of the report: a whole figure, one below zero, or thousandths shown with a dot

@@ -11,15 +11,15 @@ use Rattle.sheet.specs.Refusals.{sumOf}
 use Rattle.sheet.proofs.First.{All}
 use Rattle.goods.specs.Sums.{sumTo, onlyAt}
 use Rattle.ledger.specs.Raising.{gramsAdded, raisedToZero}
-use Rattle.reckoner.specs.Attribution.{raised, direct, indirect, boughtDirect, boughtIndirect}
-use Rattle.reckoner.specs.Reckoning.{processCount, output, kilosBetween, directLeft, indirectLeft, totalLeft, entered, totalRaised, uncredited}
-use Rattle.reckoner.proofs.Differences.{diff-pos, diff-plus, diff-eq, raised-diff, added-diff}
+use Rattle.attribution.specs.Attribution.{raised, direct, indirect, boughtDirect, boughtIndirect}
+use Rattle.attribution.specs.Reckoning.{processCount, output, kilosBetween, directLeft, indirectLeft, totalLeft, entered, totalRaised, uncredited}
+use Rattle.attribution.proofs.Differences.{diff-pos, diff-plus, diff-eq, raised-diff, added-diff}
 use Rattle.goods.proofs.Sums.{sum-add, sum-ext, at-sum}
-use Rattle.reckoner.proofs.Sums.{sum-swap}
+use Rattle.attribution.proofs.Sums.{sum-swap}
 use Rattle.goods.proofs.Pools.{left-sum}
 use Rattle.entries.specs.Entries.{entry}
-use Rattle.reckoner.proofs.Entries.{plus, minus, Valid, Even, valid-even, figures, balance-is, entered-is, forward}
-use Rattle.reckoner.proofs.Valid.{Accepted}
+use Rattle.attribution.proofs.Entries.{plus, minus, Valid, Even, valid-even, figures, balance-is, entered-is, forward}
+use Rattle.attribution.proofs.Valid.{Accepted}
 
 -- ---- raising: direct + what is taken = raised + what is added
 

@@ -8,9 +8,9 @@ use Rattle.lines.specs.Records.{Record}
 use Rattle.sheet.specs.Refusals.{sumOf}
 use Rattle.goods.specs.Sums.{sumTo}
 use Rattle.goods.proofs.Sums.{sum-add, sum-none}
-use Rattle.reckoner.specs.Sums.{sumOfℤ}
+use Rattle.attribution.specs.Sums.{sumOfℤ}
 use Rattle.ledger.specs.Raising.{raisedToZero, gramsAdded}
-use Rattle.reckoner.proofs.Differences.{diff, diff-of, diff-pos, diff-add}
+use Rattle.attribution.proofs.Differences.{diff, diff-of, diff-pos, diff-add}
 
 pub of-add : (f g : Record → ℕ) (rs : List Record) → sumOf (λ r. f r + g r) rs ≡ sumOf f rs + sumOf g rs
 unfolding sumOf

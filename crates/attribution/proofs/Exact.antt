@@ -19,14 +19,14 @@ use Rattle.lines.specs.declared.Kind.the-variants.{Process, SourceStream, Heat,
 use Rattle.sheet.proofs.First.{All}
 use Rattle.ledger.specs.Raising.{gramsAdded}
 use Rattle.entries.specs.Weighed.{chargeOf, creditOf}
-use Rattle.reckoner.specs.Attribution.{balance, raised}
-use Rattle.reckoner.specs.Reckoning.{processCount, totalLeft, entered, totalRaised, uncredited}
-use Rattle.reckoner.proofs.Differences.{diff, diff-pos, diff-eq, diff-inj, diff-ge, diff-lt}
+use Rattle.attribution.specs.Attribution.{balance, raised}
+use Rattle.attribution.specs.Reckoning.{processCount, totalLeft, entered, totalRaised, uncredited}
+use Rattle.attribution.proofs.Differences.{diff, diff-pos, diff-eq, diff-inj, diff-ge, diff-lt}
 use Rattle.goods.proofs.Sums.{sum-zero-at, sum-zero-all}
 use Rattle.entries.specs.Entries.{entry}
-use Rattle.reckoner.proofs.Entries.{recordIs, Valid, figures, entered-is}
-use Rattle.reckoner.proofs.Valid.{Accepted}
-use Rattle.reckoner.proofs.Works.{conserved}
+use Rattle.attribution.proofs.Entries.{recordIs, Valid, figures, entered-is}
+use Rattle.attribution.proofs.Valid.{Accepted}
+use Rattle.attribution.proofs.Works.{conserved}
 
 -- ---- the condition
 

@@ -9,12 +9,12 @@ use Rattle.sheet.specs.Refusals.{sumOf}
 use Rattle.sheet.proofs.First.{All}
 use Rattle.goods.specs.Sums.{sumTo, onlyAt}
 use Rattle.goods.proofs.Sums.{sum-add, sum-ext, sum-le, at-sum-le}
-use Rattle.reckoner.specs.Attribution.{direct, indirect, raised, boughtDirect, boughtIndirect}
-use Rattle.reckoner.specs.Reckoning.{processCount, totalRaised}
+use Rattle.attribution.specs.Attribution.{direct, indirect, raised, boughtDirect, boughtIndirect}
+use Rattle.attribution.specs.Reckoning.{processCount, totalRaised}
 use Rattle.entries.specs.Entries.{entry}
-use Rattle.reckoner.proofs.Sums.{of-add, of-le, sum-swap}
-use Rattle.reckoner.proofs.Entries.{plus, minus, figures}
-use Rattle.reckoner.proofs.Works.{direct-is, raised-is}
+use Rattle.attribution.proofs.Sums.{of-add, of-le, sum-swap}
+use Rattle.attribution.proofs.Entries.{plus, minus, figures}
+use Rattle.attribution.proofs.Works.{direct-is, raised-is}
 
 -- the grams that a line puts into processes, and those that it takes from them
 abbrev pub intoProcesses : Record → ℕ

@@ -18,13 +18,13 @@ use Rattle.sheet.proofs.First.{All}
 use Rattle.goods.specs.Sums.{onlyAt}
 use Rattle.ledger.specs.Raising.{raisedToZero, gramsAdded}
 use Rattle.entries.specs.Weighed.{streamOf, heatOf, chargeOf, creditOf, powerOf, boughtDirectOf, boughtIndirectOf}
-use Rattle.reckoner.specs.Attribution.{streams, heatIn, heatOut, gasCharged, gasCredited, powerIn, powerOut, boughtDirect, boughtIndirect, balance, indirect}
-use Rattle.reckoner.specs.Reckoning.{kilosOf, kilosBetween, entered, uncredited}
+use Rattle.attribution.specs.Attribution.{streams, heatIn, heatOut, gasCharged, gasCredited, powerIn, powerOut, boughtDirect, boughtIndirect, balance, indirect}
+use Rattle.attribution.specs.Reckoning.{kilosOf, kilosBetween, entered, uncredited}
 use Rattle.ledger.specs.declared.Entry.{Entry}
 use Rattle.entries.specs.Entries.{betweenProcesses, entry}
-use Rattle.reckoner.proofs.Differences.{diff, diff-plus, diff-minus}
+use Rattle.attribution.proofs.Differences.{diff, diff-plus, diff-minus}
 use Rattle.goods.proofs.Sums.{at-other, at-le, at-none, at-outside}
-use Rattle.reckoner.proofs.Sums.{ofℤ-diff}
+use Rattle.attribution.proofs.Sums.{ofℤ-diff}
 
 abbrev pub recordIs : Kind → List Field → Record
 recordIs k said = record { kind = k; said = said }

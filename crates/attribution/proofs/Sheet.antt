@@ -10,10 +10,10 @@ use Rattle.lines.specs.Records.{recordsOf}
 use Rattle.sheet.specs.Verdict.{sheetChecks}
 use Rattle.sheet.proofs.First.{All, Passes}
 use Rattle.sheet.proofs.Passed.{sheet-fine}
-use Rattle.reckoner.specs.Reckoning.{Totals, reckoning}
-use Rattle.reckoner.proofs.Valid.{Accepted, sheet-accepted}
-use Rattle.reckoner.proofs.Works.{left-is-entered-raised-uncredited}
-use Rattle.reckoner.proofs.Exact.{NothingAdded, left-equals-entered, otherwise-greater}
+use Rattle.attribution.specs.Reckoning.{Totals, reckoning}
+use Rattle.attribution.proofs.Valid.{Accepted, sheet-accepted}
+use Rattle.attribution.proofs.Works.{left-is-entered-raised-uncredited}
+use Rattle.attribution.proofs.Exact.{NothingAdded, left-equals-entered, otherwise-greater}
 
 -- the totals of a sheet
 abbrev pub totalsOf : (sheet : List ℕ) → Totals

@@ -20,10 +20,10 @@ use Rattle.lines.specs.declared.Kind.the-variants.{Process, SourceStream, Heat,
 use Rattle.sheet.proofs.First.{All, Passes}
 use Rattle.sheet.proofs.Passed.{Fine, AllFine, FineSheet, fields-in-range}
 use Rattle.goods.specs.Sums.{sumTo, onlyAt}
-use Rattle.reckoner.specs.Reckoning.{kilosOf, processCount, output, kilosBetween}
+use Rattle.attribution.specs.Reckoning.{kilosOf, processCount, output, kilosBetween}
 use Rattle.goods.proofs.Sums.{sum-none, at-sum-le}
-use Rattle.reckoner.proofs.Sums.{sum-swap, of-le}
-use Rattle.reckoner.proofs.Entries.{recordIs, Valid}
+use Rattle.attribution.proofs.Sums.{sum-swap, of-le}
+use Rattle.attribution.proofs.Entries.{recordIs, Valid}
 
 -- ---- processes are numbered 1 .. processCount
 

@@ -8,9 +8,9 @@ use Rattle.lines.specs.Records.{Record, numberAt, is}
 use Rattle.sheet.specs.Refusals.{sumOf, from, to, outputIn}
 use Rattle.lines.specs.declared.Kind.the-variants.{Process, OwnGood}
 use Rattle.goods.specs.Sums.{sumTo, onlyAt}
-use Rattle.reckoner.specs.Sums.{sumOfℤ}
+use Rattle.attribution.specs.Sums.{sumOfℤ}
 use Rattle.entries.specs.Weighed.{streamOf, chargeOf, creditOf, boughtDirectOf, boughtIndirectOf}
-use Rattle.reckoner.specs.Attribution.{heatIn, heatOut, powerIn, powerOut, boughtDirect, boughtIndirect, raised, direct, indirect}
+use Rattle.attribution.specs.Attribution.{heatIn, heatOut, powerIn, powerOut, boughtDirect, boughtIndirect, raised, direct, indirect}
 use Rattle.goods.specs.Goods.{poolOf, leftOf}
 
 -- `G,from,to,kg`

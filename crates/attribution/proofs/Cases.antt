@@ -2,8 +2,8 @@
 use mathlib.Core.List.{map}
 use mathlib.Core.Path.{_≡_, refl}
 use Rattle.lines.specs.Records.{recordsOf, fieldOf, recordOf}
-use Rattle.reckoner.specs.Reckoning.{reckoning, kilosOf, processCount, output, kilosBetween, directPool, indirectPool, directLeft, indirectLeft, totalLeft, entered, totalRaised, uncredited, rowsTo}
-use Rattle.reckoner.specs.Verdict.{rowsGrams}
+use Rattle.attribution.specs.Reckoning.{reckoning, kilosOf, processCount, output, kilosBetween, directPool, indirectPool, directLeft, indirectLeft, totalLeft, entered, totalRaised, uncredited, rowsTo}
+use Rattle.attribution.specs.Verdict.{rowsGrams}
 use Rattle.decimal.specs.Number.{allDigits, isNumber, valueFrom}
 use Rattle.quantity.specs.Rounding.{round}
 use Rattle.quantity.specs.Streams.{fossilGrams, combustionGrams, processGrams, carbonGrams, streamGrams}
@@ -12,11 +12,11 @@ use Rattle.quantity.specs.Weights.{weight, wasteGasCharge, wasteGasCredit}
 use Rattle.lines.specs.Lines.{linesOf, fieldsOf}
 use Rattle.sheet.specs.Refusals.{sumOf}
 use Rattle.goods.specs.Sums.{sumTo, onlyAt}
-use Rattle.reckoner.specs.Sums.{sumOfℤ}
+use Rattle.attribution.specs.Sums.{sumOfℤ}
 use Rattle.entries.specs.Weighed.{streamOf, heatOf, chargeOf, creditOf, powerOf, boughtDirectOf, boughtIndirectOf}
-use Rattle.reckoner.specs.Attribution.{streams, heatIn, heatOut, gasCharged, gasCredited, powerIn, powerOut, boughtDirect, boughtIndirect, balance, raised, direct, indirect}
+use Rattle.attribution.specs.Attribution.{streams, heatIn, heatOut, gasCharged, gasCredited, powerIn, powerOut, boughtDirect, boughtIndirect, balance, raised, direct, indirect}
 use Rattle.goods.specs.Goods.{takers, totalKilos, portion, left, portionOf, portionsTaken, poolsTo, poolOf, leftOf}
-use Rattle.reckoner.specs.Cases.{found, examples}
+use Rattle.attribution.specs.Cases.{found, examples}
 
 pub examples-hold : map found examples ≡ map (λ e. e .expected) examples
 unfolding examples

@@ -9,7 +9,7 @@ use Rattle.ledger.specs.Raising.{raisedToZero, gramsAdded}
 use Rattle.entries.specs.Weighed.{streamOf, heatOf, chargeOf, creditOf, powerOf, boughtDirectOf, boughtIndirectOf}
 use Rattle.sheet.specs.Refusals.{sumOf, process, from, to}
 use Rattle.goods.specs.Sums.{onlyAt}
-use Rattle.reckoner.specs.Sums.{sumOfℤ}
+use Rattle.attribution.specs.Sums.{sumOfℤ}
 
 -- ---- the grams of process k over all lines
 

@@ -5,8 +5,8 @@ use Prim.Native.String.{String}
 use lib.IntN.{ℤ, pos}
 use Rattle.decimal.specs.Text.{bytes}
 use Rattle.lines.specs.Records.{recordsOf}
-use Rattle.reckoner.specs.Reckoning.{Reckoning, reckoning}
-use Rattle.reckoner.specs.Verdict.{rowsGrams}
+use Rattle.attribution.specs.Reckoning.{Reckoning, reckoning}
+use Rattle.attribution.specs.Verdict.{rowsGrams}
 
 -- the grams of each row (direct, indirect, raised, both pools, both lefts), then left, raised and uncredited; and what entered
 pub record Figures : Type 0 where

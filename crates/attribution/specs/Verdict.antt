@@ -7,7 +7,7 @@ use lib.IntN.{natAbs}
 use Rattle.quantity.specs.Limits.{Limits}
 use Rattle.lines.specs.Records.{recordsOf}
 use Rattle.sheet.specs.Verdict.{Check, check, sheetChecks}
-use Rattle.reckoner.specs.Reckoning.{Row, Totals, Reckoning, reckoning}
+use Rattle.attribution.specs.Reckoning.{Row, Totals, Reckoning, reckoning}
 
 -- the whole-gram figures of the report, their signs aside
 abbrev pub rowGrams : Row → List ℕ

@@ -1,0 +1,10 @@
+-- Laws of attribution, and the sum over a works.
+pub mod Cases
+pub mod Differences
+pub mod Sums
+pub mod Entries
+pub mod Valid
+pub mod Works
+pub mod Exact
+pub mod Sheet
+pub mod Bounds
