@@ -3,3 +3,5 @@ pub mod Cases
 pub mod Bools
 pub mod Spelling
 pub mod OneSpelling
+pub mod Widths
+pub mod Writing

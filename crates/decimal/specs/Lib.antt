@@ -3,3 +3,4 @@ pub mod Number
 pub mod Spelling
 pub mod Text
 pub mod Cases
+pub mod Writing

@@ -1,0 +1,27 @@
+-- How many digits a number has. Assumes nothing.
+use mathlib.Core.Path.{_≡_, ap, _∙_}
+use mathlib.Core.List.{[], _∷_}
+use Prim.Native.Nat.{ℕ, zero, suc, _+_, _/_, _%_, _^_, _≤_, _<_}
+use native.Mathlib.Nat.{lt-of-not-le, div-lt-iff-lt-mul, pow-suc}
+use native.Mathlib.Decide.{decLe}
+use native.Mathlib.Omega.{arith}
+use lib.ListN.{length, length-append}
+use Rattle.decimal.specs.Spelling.{spelling}
+use Rattle.decimal.proofs.Spelling.{spell-one, spell-more}
+
+pub length-one : (n : ℕ) → n < 10 → length (spelling n) ≡ 1
+length-one n h = ap length (spell-one n h)
+
+pub length-more : (n : ℕ) → 10 ≤ n → length (spelling n) ≡ length (spelling (n / 10)) + 1
+length-more n h = ap length (spell-more n h) ∙ length-append (spelling (n / 10)) ((48 + n % 10) ∷ [])
+
+pub length-at-most : (k n : ℕ) → n < 10 ^ suc k → length (spelling n) ≤ suc k
+length-at-most zero n h = omega (arith, length-one n h)
+length-at-most (suc k) n h =
+    elim (decLe 10 n) [
+      | yes p ↦ omega (arith, length-more n p, length-at-most k (n / 10) (div-lt-iff-lt-mul {k = 10} (let z : 0 < 10 = omega arith in z) .1 (rw (pow-suc 10 (suc k)) at h)))
+      | no p ↦ omega (arith, length-one n (lt-of-not-le p))
+    ]
+
+pub twenty : (n : ℕ) → n < 2 ^ 64 → length (spelling n) ≤ 20
+twenty n h = length-at-most 19 n (let p : n < 10 ^ 20 = omega arith in p)

@@ -1,0 +1,69 @@
+-- Laws of bytes written at a place. Assumes nothing.
+use mathlib.Core.Path.{_≡_, sym, ap, _∙_}
+use mathlib.Core.List.{List, [], _∷_, _++_, append-assoc}
+use Prim.Native.Nat.{ℕ, suc, _+_, _≤_, _<_}
+use native.Mathlib.Nat.{add-zero, zero-add}
+use native.Mathlib.Numerals.{add-one}
+use native.Mathlib.Omega.{arith}
+use lib.ListN.{length, take, drop, set, getD, length-append, length-drop, take-append-drop}
+use lib.Seq.{set-split, set-at, drop-cons, length-take-le, take-at, drop-append-add, drop-drop}
+use Rattle.decimal.specs.Writing.{written, Put}
+
+pub written-one : (l : List ℕ) (at x : ℕ) → at < length l → set l at x ≡ written l at (x ∷ [])
+unfolding written
+written-one l at x h = rw (set-split l at x h, add-one)
+
+pub written-more : (l : List ℕ) (at : ℕ) (xs : List ℕ) (x : ℕ) → at + length xs < length l
+    → set (written l at xs) (at + length xs) x ≡ written l at (xs ++ (x ∷ []))
+unfolding written
+written-more l at xs x h =
+    let k : ℕ = at + length xs in
+    let e : drop k l ≡ getD l k 0 ∷ drop (suc k) l = drop-cons l k 0 h in
+    let n : length (take at l ++ xs) ≡ k = simp (length-append, length-take-le at l (let p : at ≤ length l = omega arith in p)) in
+    let s : at + (length xs + 1) ≡ suc k = omega arith in
+    rw (e, ← append-assoc (take at l) xs, set-at (take at l ++ xs) (getD l k 0) (drop (suc k) l) x k n)
+    (simp (length-append, append-assoc, s))
+
+pub length-written : (l : List ℕ) (at : ℕ) (vs : List ℕ) → at + length vs ≤ length l → length (written l at vs) ≡ length l
+unfolding written
+length-written l at vs h =
+    let p : at ≤ length l = omega arith in
+    simp (length-append, length-take-le at l p, length-drop) (omega arith)
+
+-- bytes written after bytes written
+pub written-on : (l : List ℕ) (at : ℕ) (a b : List ℕ) → at + length a ≤ length l
+    → written (written l at a) (at + length a) b ≡ written l at (a ++ b)
+unfolding written
+written-on l at a b h =
+    let k : ℕ = at + length a in
+    let p : List ℕ = take at l ++ a in
+    let n : length p ≡ k = simp (length-append, length-take-le at l (let q : at ≤ length l = omega arith in q)) in
+    let t : take k (p ++ drop k l) ≡ p = take-at p (drop k l) k n in
+    let d : drop (k + length b) (p ++ drop k l) ≡ drop (k + length b) l =
+    ap (λ (m : ℕ). drop (m + length b) (p ++ drop k l)) (sym n) ∙ drop-append-add p (drop k l) (length b) ∙ drop-drop (length b) k l in
+    let s : at + (length a + length b) ≡ k + length b = omega arith in
+    rw (← append-assoc (take at l) a (drop k l), t, d) (simp (length-append, append-assoc, s))
+
+-- one after the other: what every writer of several parts is proved by
+pub then : {l : List ℕ} {at : ℕ} {a b m n : List ℕ} {j k : ℕ} → at + length a ≤ length l → Put l at a m j → Put m j b n k → Put l at (a ++ b) n k
+then {l} {at} {a} {b} h p q =
+    record {
+      place = omega (arith, p .place, q .place, length-append a b);
+      bytes-are = q .bytes-are ∙ rw (p .bytes-are, p .place) (written-on l at a b h);
+    }
+
+pub put-none : (l : List ℕ) (at : ℕ) → Put l at [] l at
+unfolding written
+put-none l at =
+    record { place = omega arith; bytes-are = rw add-zero (sym (take-append-drop at l)) }
+
+pub put-kept : {l : List ℕ} {at : ℕ} {vs m : List ℕ} {k : ℕ} → at + length vs ≤ length l → Put l at vs m k → length m ≡ length l
+put-kept {l} {at} {vs} h p = rw (p .bytes-are) (length-written l at vs h)
+
+-- put at the start: the bytes, and what stood past them
+pub start-bytes : {l vs m : List ℕ} {k : ℕ} → Put l 0 vs m k → m ≡ vs ++ drop (length vs) l
+unfolding written
+start-bytes {l} {vs} p = p .bytes-are ∙ ap (λ (n : ℕ). vs ++ drop n l) (zero-add (length vs))
+
+pub start-place : {l vs m : List ℕ} {k : ℕ} → Put l 0 vs m k → k ≡ length vs
+start-place {l} {vs} p = omega (arith, p .place)
