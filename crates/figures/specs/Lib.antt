@@ -1,0 +1,2 @@
+-- Fields and lines of the report as the code holds them.
+pub mod Figures
