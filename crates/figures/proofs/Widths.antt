@@ -1,16 +1,15 @@
 -- How long fields and lines are, and how they grow. Assumes nothing.
-use mathlib.Core.Path.{_≡_, refl, sym, ap, _∙_}
+use mathlib.Core.Path.{_≡_, refl, ap, _∙_}
 use mathlib.Core.List.{List, [], _∷_, _++_, append-assoc, append-nil}
-use Prim.Native.Nat.{ℕ, zero, suc, _+_, _-_, _*_, _/_, _%_, _≤_, _<_}
+use Prim.Native.Nat.{ℕ, suc, _+_, _≤_, _<_}
 use native.Mathlib.Numerals.{add-one}
-use native.Mathlib.Decide.{decLe}
 use native.Mathlib.Omega.{arith}
 use lib.ListN.{length, take, drop, getD, length-append, take-append-drop}
 use lib.Seq.{take-suc, take-take}
 use Rattle.decimal.specs.Spelling.{spelling}
 use Rattle.figures.specs.declared.Figure.{Figure}
 use Rattle.figures.specs.declared.Figure.the-variants.{Whole, Minus, Parts}
-use Rattle.figures.specs.Figures.{FIELDS, three, spelt, tailed, line}
+use Rattle.figures.specs.Figures.{three, spelt, tailed, line}
 
 pub spelt-whole : (n : ℕ) → spelt (Whole n) ≡ spelling n
 unfolding spelt

@@ -84,7 +84,13 @@ pub fn put_figure(space: &mut [u8], at: usize, f: Figure) -> usize
 }
 
 // Writes a line of the first n fields: its letter, each field after a comma, LF.
-pub fn put_line(space: &mut [u8], at: usize, letter: u8, fields: [Figure; FIELDS], n: usize) -> usize
+pub fn put_line(
+    space: &mut [u8],
+    at: usize,
+    letter: u8,
+    fields: [Figure; FIELDS],
+    n: usize,
+) -> usize
     requires { ⌜ (n ≤ FIELDS) × (at + (length (tailed (take n fields)) + 2) ≤ length (now space)) ⌝ }
     ensures { λ r. ⌜ Put (now (space .entry)) at (line letter (take n fields)) (now (space .exit)) r ⌝ }
 {

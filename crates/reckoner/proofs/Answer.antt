@@ -49,7 +49,7 @@ module _ (sheet : List ℕ) where
   by-lines h e = rw (le-ltb (limits .bytes) (length sheet) h, ne-eqb (length sheet) 0 e)
 
   -- a verdict of a number is refused by it
-  numbered : (v : Verdict) → (numberOf v ≡ 0 → ⊥) → v ≡ refused (numberOf v) (lineOf v)
+  pub numbered : (v : Verdict) → (numberOf v ≡ 0 → ⊥) → v ≡ refused (numberOf v) (lineOf v)
   numbered accepted h = absurd (h refl)
   numbered (refused n k) h = refl
 
@@ -60,7 +60,8 @@ module _ (sheet : List ℕ) where
   refused-answer refusal line v some = record {
     number = sym (ap numberOf v);
     line-is = sym (ap lineOf v);
-    accepted = λ z. absurd (some z);
+    passed = λ z. absurd (some z);
+    figured = λ z. absurd (some z);
     refused = λ n. refl;
   }
 
@@ -102,7 +103,8 @@ module _ (sheet : List ℕ) where
         accepted-answer = record {
           number = sym (ap numberOf all-pass);
           line-is = sym (ap lineOf all-pass);
-          accepted = λ z. figured;
+          passed = λ z. all-pass;
+          figured = λ z. figured;
           refused = λ n. absurd (n refl);
         }
 

@@ -2,6 +2,7 @@
 use mathlib.Core.Path.{_≡_, ap, ap₂, _∙_}
 use mathlib.Core.List.{List}
 use Prim.Native.Nat.{ℕ, _+_, _≤_}
+use native.Mathlib.Omega.{arith}
 use lib.ListN.{length}
 use Rattle.lines.specs.Records.{Record}
 use Rattle.goods.specs.Sums.{sumTo}
@@ -46,6 +47,7 @@ module _ (rs : List Record) (w : Works) (kilos : List ℕ) (g : Gathered rs w ki
     counted = g .count;
     few = g .few;
     made = g .made;
+    outputs-small = g .outputs-small;
     outputs = record { size = outputs-size; at = λ k l m. g .output-at k };
     directs = column (closed .direct) (λ k l m. ap raisedToZero (g .balance-at k));
     indirects = column (closed .indirect) (λ k l m. g .indirect-at k);
@@ -60,6 +62,7 @@ module _ (rs : List Record) (w : Works) (kilos : List ℕ) (g : Gathered rs w ki
     entered-is = g .entered-is;
     raised-is = closed .total-raised ∙ raised-sum rs w kilos g ok;
     uncredited-is = g .uncredited-is;
+    entered-small = omega (arith, g .room .entered);
   }
     where
       outputs-size : length (w .outputs) ≡ SIZE

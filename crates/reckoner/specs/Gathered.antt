@@ -14,6 +14,7 @@ use Rattle.sheet.specs.Verdict.{accepted, firstOf, linesChecks, numberOf, lineO
 use Rattle.sheet.specs.Code.{refusalNumber}
 use Rattle.attribution.specs.Attribution.{balance, direct, indirect, boughtDirect, boughtIndirect}
 use Rattle.attribution.specs.Reckoning.{processCount, output, kilosBetween, entered, totalRaised, uncredited}
+use Rattle.reckoner.specs.Works.{MOST}
 use Rattle.reckoner.specs.declared.judging.Works.{Works}
 use Rattle.reckoner.specs.declared.reading.Read.{Read}
 
@@ -31,7 +32,7 @@ pub record Gathered (rs : List Record) (w : Works) (kilos : List ℕ) : Type 0 w
   pub uncredited-is : w .ledger .uncredited ≡ uncredited rs
   pub made : (i : ℕ) → 1 ≤ i → i ≤ w .count → 1 ≤ output rs i
   -- the bounds that keep every sum inside 63 bits
-  pub outputs-small : (i : ℕ) → output rs i ≤ 2 ^ 61
+  pub outputs-small : (i : ℕ) → output rs i ≤ MOST
   pub room : Room (w .ledger)
   pub into : sumTo (processCount rs) (λ k. direct rs k + boughtDirect rs k) + sumTo (processCount rs) (λ k. indirect rs k + boughtIndirect rs k) < 2 ^ 63
   pub raised : totalRaised rs < 2 ^ 63

@@ -2,15 +2,15 @@
 use mathlib.Core.Path.{_≡_}
 use mathlib.Core.Bool.{Bool, _||_}
 use mathlib.Core.List.{List}
-use Prim.Native.Nat.{ℕ, _^_, _≤_}
+use Prim.Native.Nat.{ℕ, _^_, _≤_, _<_}
 use lib.Dec.{leb}
-use lib.IntN.{ℤ, pos, negsuc}
+use lib.IntN.{ℤ, pos, negsuc, natAbs}
 use lib.Signed.{leZ}
 use lib.ListN.{getD, length, replicate}
 use Rattle.lines.specs.Records.{Record, recordsOf}
 use Rattle.goods.specs.Settling.{SIZE, figures}
 use Rattle.quantity.specs.Limits.{limits}
-use Rattle.sheet.specs.Verdict.{firstOf, numberOf, lineOf}
+use Rattle.sheet.specs.Verdict.{accepted, firstOf, numberOf, lineOf}
 use Rattle.sheet.specs.Code.{refusalNumber}
 use Rattle.sheet.specs.declared.refusals.Refusal.{Refusal}
 use Rattle.sheet.specs.declared.refusals.Refusal.the-variants.{Accepted}
@@ -19,6 +19,7 @@ use Rattle.closing.specs.declared.Closing.{Closing}
 use Rattle.attribution.specs.Attribution.{direct, indirect, raised}
 use Rattle.attribution.specs.Reckoning.{processCount, output, directPool, indirectPool, directLeft, indirectLeft, totalLeft, entered, totalRaised, uncredited}
 use Rattle.attribution.specs.Verdict.{reckonerChecks}
+use Rattle.reckoner.specs.Works.{MOST}
 use Rattle.reckoner.specs.declared.judging.Works.{Works}
 use Rattle.reckoner.specs.declared.Reckoning.{Reckoning}
 
@@ -32,6 +33,7 @@ pub record FiguresOf (rs : List Record) (r : Reckoning) : Type 0 where
   pub counted : r .count ≡ processCount rs
   pub few : r .count ≤ limits .processes
   pub made : (k : ℕ) → 1 ≤ k → k ≤ r .count → 1 ≤ output rs k
+  pub outputs-small : (k : ℕ) → output rs k ≤ MOST
   pub outputs : Column (r .count) (output rs) (r .outputs)
   pub directs : Column (r .count) (direct rs) (r .figures .direct)
   pub indirects : Column (r .count) (indirect rs) (r .figures .indirect)
@@ -44,6 +46,8 @@ pub record FiguresOf (rs : List Record) (r : Reckoning) : Type 0 where
   pub entered-is : r .entered .0 ≡ entered rs
   pub raised-is : r .figures .«total_raised» .0 ≡ totalRaised rs
   pub uncredited-is : r .uncredited .0 ≡ uncredited rs
+  -- its sign aside, below 2^63
+  pub entered-small : natAbs (r .entered .0) < 2 ^ 63
 
 -- a refused sheet has no figures
 abbrev pub none : List ℕ
@@ -77,7 +81,8 @@ refusedBy refusal line = record {
 pub record Reckoned (sheet : List ℕ) (r : Reckoning) : Type 0 where
   pub number : refusalNumber (r .refusal) ≡ numberOf (firstOf (reckonerChecks limits sheet))
   pub line-is : r .line ≡ lineOf (firstOf (reckonerChecks limits sheet))
-  pub accepted : refusalNumber (r .refusal) ≡ 0 → FiguresOf (recordsOf sheet) r
+  pub passed : refusalNumber (r .refusal) ≡ 0 → firstOf (reckonerChecks limits sheet) ≡ accepted
+  pub figured : refusalNumber (r .refusal) ≡ 0 → FiguresOf (recordsOf sheet) r
   pub refused : (refusalNumber (r .refusal) ≡ 0 → ⊥) → r ≡ refusedBy (r .refusal) (r .line)
 
 -- 15, over what the code holds: the figures of processes 1 .. count, and the totals

@@ -1,8 +1,5 @@
 -- `figures::figure_width` meets its contract. Assumes nothing.
-use mathlib.Core.Path.{_≡_, refl, sym, ap, _∙_}
 use native.Mathlib.Omega.{arith}
-use lib.ListN.{length}
-use Rattle.figures.specs.Figures.{spelt}
 use Rattle.figures.proofs.Widths.{spelt-whole, spelt-minus, length-parts}
 use borrow.Author.Needs.{needs}
 use Rattle.figures.proofs.figure_width.Statement.{statement}

@@ -1,11 +1,11 @@
 -- `figures::line_width` meets its contract. Assumes nothing.
 use Rattle.figures.specs.declared.Figure.the-variants.{Whole}
-use mathlib.Core.Path.{_≡_, refl, sym, ap, _∙_}
+use mathlib.Core.Path.{_≡_, ap}
 use native.Mathlib.Omega.{arith}
 use Prim.Native.Nat.{_+_, _-_, _*_, _≤_, _<_}
-use lib.ListN.{length, take, getD}
+use lib.ListN.{length, take}
 use borrow.Author.Needs.{needs}
-use Rattle.figures.specs.Figures.{FIELDS, spelt, tailed}
+use Rattle.figures.specs.Figures.{FIELDS, tailed}
 use Rattle.figures.proofs.Widths.{tailed-none, length-more}
 use Rattle.figures.proofs.line_width.Statement.{statement}
 use Rattle.figures.proofs.line_width.Tie as tie

@@ -1,7 +1,5 @@
 -- `figures::put_byte` meets its contract. Assumes nothing.
-use mathlib.Core.Path.{_≡_, refl, sym, ap, _∙_}
-use native.Mathlib.Omega.{arith}
-use lib.ListN.{length}
+use mathlib.Core.Path.{refl}
 use mathlib.Core.Path.{refl}
 use Rattle.decimal.proofs.Writing.{written-one}
 use borrow.Author.Needs.{needs}

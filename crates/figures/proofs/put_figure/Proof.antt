@@ -1,7 +1,5 @@
 -- `figures::put_figure` meets its contract. Assumes nothing.
-use mathlib.Core.Path.{_≡_, refl, sym, ap, _∙_}
 use native.Mathlib.Omega.{arith}
-use lib.ListN.{length}
 use Rattle.decimal.proofs.Writing.{then}
 use Rattle.figures.proofs.Widths.{spelt-whole, spelt-minus, spelt-parts, whole-long, minus-long, parts-long}
 use borrow.Author.Needs.{needs}

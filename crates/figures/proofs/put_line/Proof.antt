@@ -1,14 +1,13 @@
 -- `figures::put_line` meets its contract. Assumes nothing.
-use mathlib.Core.Path.{_≡_, refl, sym, ap, _∙_}
+use mathlib.Core.Path.{_≡_, _∙_}
 use native.Mathlib.Omega.{arith}
-use Prim.Native.Nat.{_+_, _-_, _*_, _≤_, _<_}
-use lib.ListN.{length, take, getD}
+use Prim.Native.Nat.{_+_, _-_, _≤_, _<_}
+use lib.ListN.{length, take}
 use borrow.Author.Needs.{needs}
-use mathlib.Core.List.{_∷_, [], _++_}
 use Rattle.decimal.specs.Writing.{Put}
 use Rattle.decimal.proofs.Writing.{then, put-none, put-kept}
 use Rattle.figures.specs.declared.Figure.the-variants.{Whole}
-use Rattle.figures.specs.Figures.{FIELDS, spelt, tailed, line}
+use Rattle.figures.specs.Figures.{FIELDS, tailed, line}
 use Rattle.figures.proofs.Widths.{tailed-none, tailed-more, tailed-within, length-more}
 use Rattle.figures.proofs.put_line.Statement.{statement}
 use Rattle.figures.proofs.put_line.Tie as tie

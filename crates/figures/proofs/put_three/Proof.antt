@@ -1,7 +1,4 @@
 -- `figures::put_three` meets its contract. Assumes nothing.
-use mathlib.Core.Path.{_≡_, refl, sym, ap, _∙_}
-use native.Mathlib.Omega.{arith}
-use lib.ListN.{length}
 use Rattle.figures.specs.Figures.{three}
 use Rattle.decimal.proofs.Writing.{then}
 use borrow.Author.Needs.{needs}

@@ -1,0 +1,103 @@
+-- The outcome of the whole job from what the reckoner promises. Assumes nothing.
+use mathlib.Core.Path.{_≡_, refl, sym, ap, ap₂, _∙_}
+use mathlib.Core.List.{List, [], _∷_, _++_}
+use Prim.Native.Nat.{ℕ, zero, suc, _≤_, _<_}
+use native.Mathlib.Omega.{arith}
+use native.Mathlib.Nat.{le-refl}
+use borrow.Author.Tests.{lt-ltb, le-ltb}
+use lib.ListN.{length}
+use Rattle.quantity.specs.Limits.{limits}
+use Rattle.decimal.specs.Writing.{Put}
+use Rattle.decimal.proofs.Writing.{start-bytes, start-place}
+use Rattle.lines.specs.Records.{Record, recordsOf}
+use Rattle.sheet.specs.Verdict.{Check, check, Verdict, accepted, refused, firstOf}
+use Rattle.sheet.specs.Code.{refusalNumber}
+use Rattle.attribution.specs.Reckoning as attribution
+use Rattle.attribution.specs.Verdict.{reckonerChecks}
+use Rattle.report.specs.Report.{reportOf}
+use Rattle.report.specs.Spelling.{reportBytes}
+use Rattle.report.specs.Outcome.{sheetReport, spaceTooShort, allChecks, verdict, outcomeOf, outcome}
+use Rattle.reckoner.specs.Reckoned.{FiguresOf, Reckoned}
+use Rattle.reckoner.specs.declared.Reckoning.{Reckoning}
+use Rattle.reckoner.proofs.AllLines.{first-rest, first-here}
+use Rattle.reckoner.proofs.Answer.{numbered}
+use Rattle.writer.specs.Held.{Sound, rowHeld, rowsHeld, reckoningHeld, bytesHeld}
+
+-- ---- the figures of an accepted sheet
+
+module _ (rs : List Record) (r : Reckoning) (f : FiguresOf rs r) where
+  pub sound : Sound r
+  sound = record {
+    few = omega (arith, f .few);
+    made = λ k l m. let e = f .outputs .at k l m in let h = f .made k l m in omega arith;
+    small = λ k l m. let e = f .outputs .at k l m in let h = f .outputs-small k in omega arith;
+    sign = f .entered-small;
+  }
+
+  row-is : (k : ℕ) → 1 ≤ k → k ≤ r .count → rowHeld r k ≡ attribution.rowOf rs k
+  unfolding rowHeld
+  row-is k l m =
+      rw (
+        f .outputs .at k l m,
+        f .directs .at k l m,
+        f .indirects .at k l m,
+        f .raiseds .at k l m,
+        f .direct-pools .at k l m,
+        f .indirect-pools .at k l m,
+        f .direct-lefts .at k l m,
+        f .indirect-lefts .at k l m,
+      )
+
+  rows-are : (k : ℕ) → k ≤ r .count → rowsHeld r k ≡ attribution.rowsTo rs k
+  unfolding rowsHeld attribution.rowsTo
+  rows-are zero h = refl
+  rows-are (suc k) h =
+      ap₂ (λ (a : List attribution.Row) (b : attribution.Row). a ++ (b ∷ []))
+      (rows-are k (let p : k ≤ r .count = omega arith in p))
+      (row-is (suc k) (let p : 1 ≤ suc k = omega arith in p) h)
+
+  reckoning-is : reckoningHeld r ≡ attribution.reckoning rs
+  unfolding reckoningHeld attribution.reckoning
+  reckoning-is =
+      rw (rows-are (r .count) (le-refl (r .count)), f .counted, f .left-is, f .entered-is, f .raised-is, f .uncredited-is)
+
+-- ---- number, line, length and every byte
+
+module _ (sheet space : List ℕ) (r : Reckoning) (h : Reckoned sheet r) where
+  abbrev last : List Check
+  last = check 16 0 (spaceTooShort sheet space) ∷ []
+
+  pub refused-outcome : (refusalNumber (r .refusal) ≡ 0 → ⊥)
+      → record { number = refusalNumber (r .refusal); line = r .line; length = 0; space = space } ≡ outcome limits sheet space
+  unfolding outcome verdict allChecks
+  refused-outcome some =
+      let v : Verdict = firstOf (reckonerChecks limits sheet) in
+      let e : v ≡ refused (refusalNumber (r .refusal)) (r .line) =
+      numbered sheet v (λ z. some (h .number ∙ z)) ∙ ap₂ refused (sym (h .number)) (sym (h .line-is)) in
+      let w = first-here (reckonerChecks limits sheet) last (refusalNumber (r .refusal)) (r .line) e in
+      sym (ap (λ (v : Verdict). outcomeOf v (sheetReport sheet) space) w)
+
+  module _ (zero-number : refusalNumber (r .refusal) ≡ 0) where
+    pub bytes-are : bytesHeld r ≡ sheetReport sheet
+    unfolding bytesHeld sheetReport
+    bytes-are = ap (λ (q : attribution.Reckoning). reportBytes (reportOf q)) (reckoning-is (recordsOf sheet) r (h .figured zero-number))
+
+    passes : firstOf (reckonerChecks limits sheet ++ last) ≡ firstOf last
+    passes = first-rest (reckonerChecks limits sheet) last (h .passed zero-number)
+
+    pub short-outcome : length space < length (bytesHeld r) → record { number = 16; line = 0; length = 0; space = space } ≡ outcome limits sheet space
+    unfolding outcome verdict allChecks firstOf
+    short-outcome p =
+        let e = ap length bytes-are in
+        let q = lt-ltb (length space) (length (sheetReport sheet)) (let z : length space < length (sheetReport sheet) = omega arith in z) in
+        let v : firstOf last ≡ refused 16 0 = rw q in
+        sym (ap (λ (v : Verdict). outcomeOf v (sheetReport sheet) space) (passes ∙ v))
+
+    pub written-outcome : {after : List ℕ} {n : ℕ} → length (bytesHeld r) ≤ length space → Put space 0 (bytesHeld r) after n
+        → record { number = 0; line = 0; length = n; space = after } ≡ outcome limits sheet space
+    unfolding outcome verdict allChecks firstOf
+    written-outcome {after} {n} p w =
+        let e = ap length bytes-are in
+        let q = le-ltb (length space) (length (sheetReport sheet)) (let z : length (sheetReport sheet) ≤ length space = omega arith in z) in
+        let v : firstOf last ≡ accepted = rw q in
+        rw (start-place w, start-bytes w, bytes-are) (sym (ap (λ (v : Verdict). outcomeOf v (sheetReport sheet) space) (passes ∙ v)))

@@ -1,0 +1,4 @@
+-- Laws of the report of a reckoning.
+pub mod Figures
+pub mod Rows
+pub mod Job

@@ -1,0 +1,68 @@
+-- `writer::report` meets its contract: number, line, length and every byte of the report space. Assumes nothing.
+use borrow.Author.Needs.{needs}
+use mathlib.Core.Path.{sym, _∙_}
+use native.Mathlib.Omega.{arith}
+use Rattle.writer.proofs.Job.{sound, refused-outcome, short-outcome, written-outcome}
+use Rattle.writer.proofs.report.Statement.{statement}
+use Rattle.writer.proofs.report.Tie as tie
+use Rattle.writer.proofs.report.Reads as reads
+use Rattle.writer.proofs.report.Lts as lts
+use Rattle.reckoner.proofs.reckon.Reads as reckon-reads
+use Rattle.sheet.proofs.refusals.refusal_number.Reads as refusal-number-reads
+use Rattle.writer.proofs.put_report.Reads as put-report-reads
+use Rattle.writer.proofs.report_width.Reads as report-width-reads
+
+reckon-requires : tie.Need-reckon-requires
+reckon-requires c κs = search needs
+
+refusal-number-requires : tie.Need-refusal-number-requires
+refusal-number-requires c κs = search needs
+
+returns : tie.Need-returns
+returns c =
+    let number = c .before .refusal-number .ensures in
+    rw number (refused-outcome _ _ _ (c .before .before .reckon .ensures .0) (λ z. c .if1 .taken (number ∙ z)))
+
+report-width-requires : tie.Need-report-width-requires
+report-width-requires c κs =
+    let zero = sym (c .before .refusal-number .ensures) ∙ c .if1 .left in
+    sound _ _ (c .before .before .reckon .ensures .0 .figured zero)
+
+refusal-number-requires-2 : tie.Need-refusal-number-requires-2
+refusal-number-requires-2 c κs = search needs
+
+returns-2 : tie.Need-returns-2
+returns-2 c =
+    let k = c .before .before .before .before in
+    let zero = sym (k .refusal-number .ensures) ∙ c .before .before .before .if1 .left in
+    rw (c .refusal-number2 .ensures) (short-outcome _ _ _ (k .before .reckon .ensures .0) zero (omega (arith, c .before .before .report-width .ensures, c .before .if2 .taken)))
+
+put-report-requires : tie.Need-put-report-requires
+put-report-requires c κs =
+    let k = c .before .before .before .before in
+    let zero = sym (k .refusal-number .ensures) ∙ c .before .before .before .if1 .left in
+    (sound _ _ (k .before .reckon .ensures .0 .figured zero), omega (arith, c .before .before .report-width .ensures, c .before .if2 .left))
+
+same-length : tie.Need-same-length
+same-length c = search needs
+
+returns-3 : tie.Need-returns-3
+returns-3 c =
+    let k = c .before .before .before .before .before .before .before in
+    let zero = sym (k .refusal-number .ensures) ∙ c .before .before .before .before .before .before .if1 .left in
+    let room = c .before .before .before .before .before .report-width .ensures in
+    written-outcome _ _ _ (k .before .reckon .ensures .0) zero (omega (arith, room, c .before .before .before .before .if2 .left)) (c .before .before .put-report .ensures)
+
+pub report-spec : {M : Type 1} → statement M
+report-spec =
+    tie.close
+    (tie.spec
+    reckon-requires
+    refusal-number-requires
+    returns
+    report-width-requires
+    refusal-number-requires-2
+    returns-2
+    put-report-requires
+    same-length
+    returns-3)

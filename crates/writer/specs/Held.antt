@@ -1,0 +1,64 @@
+-- The report of what the reckoner gives, in the report's definitions. Laws join it to the report of the sheet.
+use mathlib.Core.List.{List, [], _∷_, _++_, map}
+use Prim.Native.Nat.{ℕ, zero, suc, _^_, _≤_, _<_}
+use lib.IntN.{natAbs}
+use lib.ListN.{getD}
+use Rattle.goods.specs.Settling.{SIZE}
+use Rattle.attribution.specs.Reckoning as attribution
+use Rattle.report.specs.Report.{reportRow, reportOf}
+use Rattle.report.specs.Spelling.{rowLine, totalLine, spellLines, reportBytes}
+use Rattle.figures.specs.Figures.{held}
+use Rattle.figures.specs.declared.Figure.{Figure}
+use Rattle.reckoner.specs.Works.{MOST}
+use Rattle.reckoner.specs.declared.Reckoning.{Reckoning}
+
+-- what the writer asks of a reckoning
+pub record Sound (r : Reckoning) : Type 0 where
+  pub few : r .count < SIZE
+  pub made : (k : ℕ) → 1 ≤ k → k ≤ r .count → 1 ≤ getD (r .outputs) k 0
+  pub small : (k : ℕ) → 1 ≤ k → k ≤ r .count → getD (r .outputs) k 0 ≤ MOST
+  pub sign : natAbs (r .entered .0) < 2 ^ 63
+
+-- the figures of process k
+unfoldable pub rowHeld : Reckoning → (k : ℕ) → attribution.Row
+rowHeld r k = record {
+  process = k;
+  output = getD (r .outputs) k 0;
+  direct = getD (r .figures .direct) k 0;
+  indirect = getD (r .figures .indirect) k 0;
+  raised = getD (r .figures .raised) k 0;
+  directPool = getD (r .figures .«direct_pools») k 0;
+  indirectPool = getD (r .figures .«indirect_pools») k 0;
+  directLeft = getD (r .figures .«direct_lefts») k 0;
+  indirectLeft = getD (r .figures .«indirect_lefts») k 0;
+}
+
+abbrev pub totalsHeld : Reckoning → attribution.Totals
+totalsHeld r = record {
+  left = r .figures .left .0;
+  entered = r .entered .0;
+  raised = r .figures .«total_raised» .0;
+  uncredited = r .uncredited .0;
+}
+
+-- of processes 1 .. k
+unfoldable pub rowsHeld : Reckoning → (k : ℕ) → List attribution.Row
+rowsHeld r zero = []
+rowsHeld r (suc k) = rowsHeld r k ++ (rowHeld r (suc k) ∷ [])
+
+unfoldable pub reckoningHeld : Reckoning → attribution.Reckoning
+reckoningHeld r = record { rows = rowsHeld r (r .count); totals = totalsHeld r }
+
+-- the fields of a line
+unfoldable pub rowFields : Reckoning → (k : ℕ) → List Figure
+rowFields r k = map held (rowLine (reportRow (rowHeld r k)) .fields)
+
+unfoldable pub totalFields : Reckoning → List Figure
+totalFields r = map held (totalLine (totalsHeld r) .fields)
+
+-- the bytes of the lines of processes 1 .. k, and of all lines
+unfoldable pub rowsBytes : Reckoning → (k : ℕ) → List ℕ
+rowsBytes r k = spellLines (map rowLine (map reportRow (rowsHeld r k)))
+
+unfoldable pub bytesHeld : Reckoning → List ℕ
+bytesHeld r = reportBytes (reportOf (reckoningHeld r))

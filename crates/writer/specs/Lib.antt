@@ -1,0 +1,3 @@
+-- The report of what the reckoner gives.
+pub mod Held
+pub mod Given

@@ -1,0 +1,160 @@
+// Document 01, "The report": the report of a sheet, written into a lent space.
+ghost use mathlib.Core.Path.{_≡_};
+ghost use Prim.Native.Nat.{_+_, _*_, _^_, _≤_, _<_};
+ghost use lib.ListN.{length, take};
+ghost use lib.IntN.{natAbs};
+ghost use Rattle.quantity.specs.Limits.{limits};
+ghost use Rattle.decimal.specs.Writing.{Put};
+ghost use Rattle.report.specs.Report.{specific};
+ghost use Rattle.report.specs.Spelling.{thousandths, signed};
+ghost use Rattle.report.specs.Outcome.{outcome};
+ghost use Rattle.figures.specs.Figures.{FIELDS, held};
+ghost use Rattle.reckoner.specs.Works.{MOST};
+ghost use Rattle.writer.specs.Held.{Sound, rowFields, totalFields, rowsBytes, bytesHeld};
+ghost use Rattle.writer.specs.Given.{gives};
+use figures::FIELDS;
+use figures::Figure;
+use figures::line_width;
+use figures::put_line;
+use quantity::Grams;
+use quantity::Kilos;
+use quantity::SignedGrams;
+use reckoner::Reckoning;
+use reckoner::reckon;
+use sheet::refusals::Refusal;
+use sheet::refusals::refusal_number;
+
+// As many fields as the last line has behind its letter.
+const TOTALS: usize = 4;
+
+// Specific embedded emissions: pool/output in g/kg, three digits after the dot, cut down.
+fn specific_figure(pool: Grams, output: Kilos) -> Figure
+    requires { ⌜ (1 ≤ output .0) × (output .0 ≤ MOST) ⌝ }
+    ensures { λ r. ⌜ r ≡ held (thousandths (specific (pool .0) (output .0))) ⌝ }
+{
+    let grams = pool.0;
+    let kilos = output.0;
+    Figure::Parts(grams / kilos, grams % kilos * 1000 / kilos)
+}
+
+// A total that may carry `-`.
+fn signed_figure(total: SignedGrams) -> Figure
+    requires { ⌜ natAbs (total .0) < 2 ^ 63 ⌝ }
+    ensures { λ r. ⌜ r ≡ held (signed (total .0)) ⌝ }
+{
+    let grams = total.0;
+    if grams < 0 {
+        return Figure::Minus((0 - grams) as u64);
+    }
+    Figure::Whole(grams as u64)
+}
+
+// The fields of process k's line.
+fn row_fields(r: Reckoning, k: usize) -> [Figure; FIELDS]
+    requires { ⌜ (1 ≤ k) × (k ≤ r .count) × (Sound r) ⌝ }
+    ensures { λ q. ⌜ q ≡ rowFields r k ⌝ }
+{
+    let f = r.figures;
+    let output = r.outputs[k];
+    let direct = f.direct_pools[k];
+    let indirect = f.indirect_pools[k];
+    [
+        Figure::Whole(k as u64),
+        Figure::Whole(f.direct[k]),
+        Figure::Whole(f.indirect[k]),
+        Figure::Whole(f.raised[k]),
+        Figure::Whole(direct),
+        Figure::Whole(indirect),
+        Figure::Whole(f.direct_lefts[k]),
+        Figure::Whole(f.indirect_lefts[k]),
+        specific_figure(Grams(direct), Kilos(output)),
+        specific_figure(Grams(indirect), Kilos(output)),
+    ]
+}
+
+// The fields of the last line, and six that are not written.
+fn total_fields(r: Reckoning) -> [Figure; FIELDS]
+    requires { ⌜ Sound r ⌝ }
+    ensures { λ q. ⌜ take 4 q ≡ totalFields r ⌝ }
+{
+    let mut fields = [Figure::Whole(0); FIELDS];
+    fields[0] = Figure::Whole(r.figures.left.0);
+    let entered = r.entered;
+    fields[1] = signed_figure(entered);
+    fields[2] = Figure::Whole(r.figures.total_raised.0);
+    fields[3] = Figure::Whole(r.uncredited.0);
+    fields
+}
+
+// How many bytes the report has.
+fn report_width(r: Reckoning) -> usize
+    requires { ⌜ Sound r ⌝ }
+    ensures { λ n. ⌜ n ≡ length (bytesHeld r) ⌝ }
+{
+    let mut sum = line_width(total_fields(r), TOTALS);
+    let mut k: usize = 0;
+    while k < r.count {
+        k += 1;
+        sum += line_width(row_fields(r, k), FIELDS);
+    }
+    sum
+}
+
+// Writes the lines of all processes.
+fn put_rows(space: &mut [u8], r: Reckoning) -> usize
+    requires { ⌜ (Sound r) × (length (bytesHeld r) ≤ length (now space)) ⌝ }
+    ensures { λ n. ⌜ Put (now (space .entry)) 0 (rowsBytes r (r .count)) (now (space .exit)) n ⌝ }
+{
+    let mut at: usize = 0;
+    let mut k: usize = 0;
+    while k < r.count {
+        k += 1;
+        at = put_line(space, at, b'R', row_fields(r, k), FIELDS);
+    }
+    at
+}
+
+// Writes the report at the start of a space that has room for it.
+fn put_report(space: &mut [u8], r: Reckoning) -> usize
+    requires { ⌜ (Sound r) × (length (bytesHeld r) ≤ length (now space)) ⌝ }
+    ensures { λ n. ⌜ Put (now (space .entry)) 0 (bytesHeld r) (now (space .exit)) n ⌝ }
+{
+    let at = put_rows(space, r);
+    put_line(space, at, b'T', total_fields(r), TOTALS)
+}
+
+// What the job gives: number and line of a refusal, or 0 and 0, and the report's length, 0 for a refusal.
+pub struct Answer {
+    pub number: u64,
+    pub line: usize,
+    pub length: usize,
+}
+
+// The report of a sheet at the start of the lent space; a refused sheet leaves the space as it was.
+pub fn report(sheet: &[u8], space: &mut [u8]) -> Answer
+    ensures { λ a. ⌜ gives a (now (space .exit)) ≡ outcome limits (now (sheet .entry)) (now (space .entry)) ⌝ }
+{
+    let r = reckon(sheet);
+    let refusal = r.refusal;
+    let number = refusal_number(refusal);
+    if number != 0 {
+        return Answer {
+            number: number,
+            line: r.line,
+            length: 0,
+        };
+    }
+    if space.len() < report_width(r) {
+        return Answer {
+            number: refusal_number(Refusal::SpaceTooShort),
+            line: 0,
+            length: 0,
+        };
+    }
+    let length = put_report(space, r);
+    Answer {
+        number: 0,
+        line: 0,
+        length: length,
+    }
+}
