@@ -45,7 +45,7 @@ pub fn line_width(fields: [Figure; FIELDS], n: usize) -> usize
 }
 
 // Writes one byte at a place of a lent space, and gives the place after it, as all below do.
-fn put_byte(space: &mut [u8], at: usize, b: u8) -> usize
+pub fn put_byte(space: &mut [u8], at: usize, b: u8) -> usize
     requires { ⌜ at < length (now space) ⌝ }
     ensures { λ r. ⌜ Put (now (space .entry)) at (b ∷ []) (now (space .exit)) r ⌝ }
 {

@@ -16,7 +16,7 @@ use Rattle.attribution.specs.Reckoning as attribution
 use Rattle.attribution.specs.Verdict.{reckonerChecks}
 use Rattle.report.specs.Report.{reportOf}
 use Rattle.report.specs.Spelling.{reportBytes}
-use Rattle.report.specs.Outcome.{sheetReport, spaceTooShort, allChecks, verdict, outcomeOf, outcome}
+use Rattle.report.specs.Outcome.{sheetReport, spaceTooShort, allChecks, verdict, outcomeOf, outcome, printed, carbon}
 use Rattle.reckoner.specs.Reckoned.{FiguresOf, Reckoned}
 use Rattle.reckoner.specs.declared.Reckoning.{Reckoning}
 use Rattle.reckoner.proofs.AllLines.{first-rest, first-here}
@@ -67,20 +67,29 @@ module _ (sheet space : List ℕ) (r : Reckoning) (h : Reckoned sheet r) where
   abbrev last : List Check
   last = check 16 0 (spaceTooShort sheet space) ∷ []
 
+  refused-by : (refusalNumber (r .refusal) ≡ 0 → ⊥) → firstOf (reckonerChecks limits sheet) ≡ refused (refusalNumber (r .refusal)) (r .line)
+  refused-by some =
+      numbered sheet (firstOf (reckonerChecks limits sheet)) (λ z. some (h .number ∙ z)) ∙ ap₂ refused (sym (h .number)) (sym (h .line-is))
+
+  pub printed-refusal : (refusalNumber (r .refusal) ≡ 0 → ⊥) → carbon limits sheet ≡ printed (refused (refusalNumber (r .refusal)) (r .line)) []
+  unfolding carbon
+  printed-refusal some = ap (λ (v : Verdict). printed v (sheetReport sheet)) (refused-by some)
+
   pub refused-outcome : (refusalNumber (r .refusal) ≡ 0 → ⊥)
       → record { number = refusalNumber (r .refusal); line = r .line; length = 0; space = space } ≡ outcome limits sheet space
   unfolding outcome verdict allChecks
   refused-outcome some =
-      let v : Verdict = firstOf (reckonerChecks limits sheet) in
-      let e : v ≡ refused (refusalNumber (r .refusal)) (r .line) =
-      numbered sheet v (λ z. some (h .number ∙ z)) ∙ ap₂ refused (sym (h .number)) (sym (h .line-is)) in
-      let w = first-here (reckonerChecks limits sheet) last (refusalNumber (r .refusal)) (r .line) e in
+      let w = first-here (reckonerChecks limits sheet) last (refusalNumber (r .refusal)) (r .line) (refused-by some) in
       sym (ap (λ (v : Verdict). outcomeOf v (sheetReport sheet) space) w)
 
   module _ (zero-number : refusalNumber (r .refusal) ≡ 0) where
     pub bytes-are : bytesHeld r ≡ sheetReport sheet
     unfolding bytesHeld sheetReport
     bytes-are = ap (λ (q : attribution.Reckoning). reportBytes (reportOf q)) (reckoning-is (recordsOf sheet) r (h .figured zero-number))
+
+    pub printed-report : carbon limits sheet ≡ bytesHeld r
+    unfolding carbon
+    printed-report = ap (λ (v : Verdict). printed v (sheetReport sheet)) (h .passed zero-number) ∙ sym bytes-are
 
     passes : firstOf (reckonerChecks limits sheet ++ last) ≡ firstOf last
     passes = first-rest (reckonerChecks limits sheet) last (h .passed zero-number)

@@ -1,24 +1,28 @@
 // Document 01, "The report": the report of a sheet, written into a lent space.
 ghost use mathlib.Core.Path.{_≡_};
 ghost use Prim.Native.Nat.{_+_, _*_, _^_, _≤_, _<_};
+ghost use mathlib.Core.List.{[]};
 ghost use lib.ListN.{length, take};
 ghost use lib.IntN.{natAbs};
 ghost use Rattle.quantity.specs.Limits.{limits};
 ghost use Rattle.decimal.specs.Writing.{Put};
 ghost use Rattle.report.specs.Report.{specific};
 ghost use Rattle.report.specs.Spelling.{thousandths, signed};
-ghost use Rattle.report.specs.Outcome.{outcome};
+ghost use Rattle.report.specs.Outcome.{outcome, printed, carbon};
+ghost use Rattle.sheet.specs.Verdict.{refused};
 ghost use Rattle.figures.specs.Figures.{FIELDS, held};
 ghost use Rattle.reckoner.specs.Works.{MOST};
-ghost use Rattle.writer.specs.Held.{Sound, rowFields, totalFields, rowsBytes, bytesHeld};
+ghost use Rattle.writer.specs.Held.{LONGEST, Sound, rowFields, totalFields, rowsBytes, bytesHeld};
 ghost use Rattle.writer.specs.Given.{gives};
 use figures::FIELDS;
 use figures::Figure;
 use figures::line_width;
+use figures::put_byte;
 use figures::put_line;
 use quantity::Grams;
 use quantity::Kilos;
 use quantity::SignedGrams;
+use quantity::limits::PROCESSES;
 use reckoner::Reckoning;
 use reckoner::reckon;
 use sheet::refusals::Refusal;
@@ -26,6 +30,9 @@ use sheet::refusals::refusal_number;
 
 // As many fields as the last line has behind its letter.
 const TOTALS: usize = 4;
+
+// No report has more bytes, and no refusal.
+pub const LONGEST: usize = (25 * FIELDS + 2) * PROCESSES + 25 * TOTALS + 2;
 
 // Specific embedded emissions: pool/output in g/kg, three digits after the dot, cut down.
 fn specific_figure(pool: Grams, output: Kilos) -> Figure
@@ -90,6 +97,7 @@ fn total_fields(r: Reckoning) -> [Figure; FIELDS]
 fn report_width(r: Reckoning) -> usize
     requires { ⌜ Sound r ⌝ }
     ensures { λ n. ⌜ n ≡ length (bytesHeld r) ⌝ }
+    ensures bounded { λ n. ⌜ n ≤ LONGEST ⌝ }
 {
     let mut sum = line_width(total_fields(r), TOTALS);
     let mut k: usize = 0;
@@ -121,6 +129,34 @@ fn put_report(space: &mut [u8], r: Reckoning) -> usize
 {
     let at = put_rows(space, r);
     put_line(space, at, b'T', total_fields(r), TOTALS)
+}
+
+// Writes a refusal's number, a comma, its line number and LF.
+fn put_refusal(space: &mut [u8], number: u64, line: usize) -> usize
+    requires { ⌜ LONGEST ≤ length (now space) ⌝ }
+    ensures { λ n. ⌜ Put (now (space .entry)) 0 (printed (refused number line) []) (now (space .exit)) n ⌝ }
+    ensures bounded { λ n. ⌜ n ≤ LONGEST ⌝ }
+{
+    let comma = decimal::put(space, 0, number);
+    let start = put_byte(space, comma, b',');
+    let end = decimal::put(space, start, line as u64);
+    put_byte(space, end, b'\n')
+}
+
+// What the program `carbon` prints of a sheet: its report, or the refusal's number and line.
+pub fn print(sheet: &[u8], space: &mut [u8]) -> usize
+    requires { ⌜ LONGEST ≤ length (now space) ⌝ }
+    ensures { λ n. ⌜ Put (now (space .entry)) 0 (carbon limits (now (sheet .entry))) (now (space .exit)) n ⌝ }
+    ensures bounded { λ n. ⌜ n ≤ LONGEST ⌝ }
+{
+    let r = reckon(sheet);
+    let refusal = r.refusal;
+    let number = refusal_number(refusal);
+    if number != 0 {
+        return put_refusal(space, number, r.line);
+    }
+    let width = report_width(r);
+    put_report(space, r)
 }
 
 // What the job gives: number and line of a refusal, or 0 and 0, and the report's length, 0 for a refusal.

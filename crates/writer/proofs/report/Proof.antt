@@ -35,13 +35,13 @@ returns-2 : tie.Need-returns-2
 returns-2 c =
     let k = c .before .before .before .before in
     let zero = sym (k .refusal-number .ensures) ∙ c .before .before .before .if1 .left in
-    rw (c .refusal-number2 .ensures) (short-outcome _ _ _ (k .before .reckon .ensures .0) zero (omega (arith, c .before .before .report-width .ensures, c .before .if2 .taken)))
+    rw (c .refusal-number2 .ensures) (short-outcome _ _ _ (k .before .reckon .ensures .0) zero (omega (arith, c .before .before .report-width .ensures .0, c .before .if2 .taken)))
 
 put-report-requires : tie.Need-put-report-requires
 put-report-requires c κs =
     let k = c .before .before .before .before in
     let zero = sym (k .refusal-number .ensures) ∙ c .before .before .before .if1 .left in
-    (sound _ _ (k .before .reckon .ensures .0 .figured zero), omega (arith, c .before .before .report-width .ensures, c .before .if2 .left))
+    (sound _ _ (k .before .reckon .ensures .0 .figured zero), omega (arith, c .before .before .report-width .ensures .0, c .before .if2 .left))
 
 same-length : tie.Need-same-length
 same-length c = search needs
@@ -50,7 +50,7 @@ returns-3 : tie.Need-returns-3
 returns-3 c =
     let k = c .before .before .before .before .before .before .before in
     let zero = sym (k .refusal-number .ensures) ∙ c .before .before .before .before .before .before .if1 .left in
-    let room = c .before .before .before .before .before .report-width .ensures in
+    let room = c .before .before .before .before .before .report-width .ensures .0 in
     written-outcome _ _ _ (k .before .reckon .ensures .0) zero (omega (arith, room, c .before .before .before .before .if2 .left)) (c .before .before .put-report .ensures)
 
 pub report-spec : {M : Type 1} → statement M
