@@ -1,0 +1,46 @@
+// The functions that programs in other languages link: include/wiltoresh.h declares them.
+ghost use mathlib.Core.Path.{_≡_};
+ghost use lib.ListN.{length};
+ghost use Rattle.quantity.specs.Limits.{limits};
+ghost use Rattle.lines.specs.Lines.{linesOf, lineBytes, lineStart};
+ghost use Rattle.lines.specs.Scan.{PlaceOf};
+ghost use Rattle.report.specs.Outcome.{outcome};
+ghost use Rattle.writer.specs.Held.{LONGEST};
+ghost use Rattle.writer.specs.Given.{gives};
+use lines::line_place;
+use writer::LONGEST;
+use writer::report;
+
+// The whole job. The result is the refusal's number, 0 for an accepted sheet.
+#[no_mangle]
+pub extern "C" fn wiltoresh_report(
+    sheet: &[u8],
+    space: &mut [u8],
+    line: &mut usize,
+    length: &mut usize,
+) -> u64
+    ensures { λ n. ⌜ gives (record { number = n; line = now (line .exit); length = now (length .exit) }) (now (space .exit)) ≡ outcome limits (now (sheet .entry)) (now (space .entry)) ⌝ }
+{
+    let answer = report(sheet, space);
+    *line = answer.line;
+    *length = answer.length;
+    answer.number
+}
+
+// The offending line: its length without its LF, and the place where it starts.
+#[no_mangle]
+pub extern "C" fn wiltoresh_line(sheet: &[u8], line: usize, start: &mut usize) -> usize
+    ensures { λ n. ⌜ PlaceOf (now (sheet .entry)) line (record { start = now (start .exit); length = n }) ⌝ }
+{
+    let place = line_place(sheet, line);
+    *start = place.start;
+    place.length
+}
+
+// No report has more bytes.
+#[no_mangle]
+pub extern "C" fn wiltoresh_longest() -> usize
+    ensures { λ n. ⌜ n ≡ LONGEST ⌝ }
+{
+    LONGEST
+}
