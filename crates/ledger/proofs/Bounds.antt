@@ -87,7 +87,7 @@ within-booked k l e w s = record {
   bought-direct = each-added k STEP (l .«bought_direct») (e .buyer) (e .direct .0) (omega (arith, s .into)) (w .bought-direct);
   bought-indirect = each-added k STEP (l .«bought_indirect») (e .buyer) (e .indirect .0) (omega (arith, s .into)) (w .bought-indirect);
   entered =
-      omega (arith, size-moved STEP (l .entered) (e .entering .0) (e .leaving .0) (s .entering) (s .leaving), w .entered);
+      omega (arith, size-moved STEP (l .totals .entered .0) (e .entering .0) (e .leaving .0) (s .entering) (s .leaving), w .entered);
   uncredited = omega (arith, w .uncredited, s .lost);
 }
 

@@ -7,10 +7,21 @@ use lib.ListN.{length, getD, set, replicate}
 use Rattle.goods.specs.Settling.{SIZE}
 use Rattle.ledger.specs.declared.Entry.{Entry}
 use Rattle.ledger.specs.declared.Ledger.{Ledger}
+use Rattle.ledger.specs.declared.Totals.{Totals}
 
 -- the most grams that one line adds to the figures
 abbrev pub STEP : ℕ
 STEP = 2000000000000000
+
+-- its columns and totals
+abbrev pub ledgerOf : (balances : List ℤ) → (indirect boughtDirect boughtIndirect : List ℕ) → Totals → Ledger
+ledgerOf balances indirect boughtDirect boughtIndirect totals = record {
+  balances = balances;
+  indirect = indirect;
+  «bought_direct» = boughtDirect;
+  «bought_indirect» = boughtIndirect;
+  totals = totals;
+}
 
 -- an amount added in one place
 abbrev pub added : List ℕ → (i amount : ℕ) → List ℕ
@@ -22,25 +33,20 @@ chargedAndCredited b charged charge credited credit =
     let c : List ℤ = set b charged (getD b charged (pos 0) +ℤ pos charge) in
     set c credited (getD c credited (pos 0) -ℤ pos credit)
 
-unfoldable pub balanced : Ledger → Entry → Ledger
-balanced l e = record {
-  balances = chargedAndCredited (l .balances) (e .charged) (e .charge .0) (e .credited) (e .credit .0);
-  indirect = l .indirect;
-  «bought_direct» = l .«bought_direct»;
-  «bought_indirect» = l .«bought_indirect»;
-  entered = l .entered;
-  uncredited = l .uncredited;
-}
-
 unfoldable pub booked : Ledger → Entry → Ledger
 booked l e = record {
   balances = chargedAndCredited (l .balances) (e .charged) (e .charge .0) (e .credited) (e .credit .0);
   indirect = added (l .indirect) (e .user) (e .power .0);
   «bought_direct» = added (l .«bought_direct») (e .buyer) (e .direct .0);
   «bought_indirect» = added (l .«bought_indirect») (e .buyer) (e .indirect .0);
-  entered = l .entered +ℤ pos (e .entering .0) -ℤ pos (e .leaving .0);
-  uncredited = l .uncredited + e .lost .0;
+  totals = record {
+    entered = record { 0 = l .totals .entered .0 +ℤ pos (e .entering .0) -ℤ pos (e .leaving .0) };
+    uncredited = record { 0 = l .totals .uncredited .0 + e .lost .0 };
+  };
 }
+
+abbrev pub nothingMoved : Totals
+nothingMoved = record { entered = record { 0 = pos 0 }; uncredited = record { 0 = 0 } }
 
 unfoldable pub start : Ledger
 start = record {
@@ -48,8 +54,7 @@ start = record {
   indirect = replicate SIZE 0;
   «bought_direct» = replicate SIZE 0;
   «bought_indirect» = replicate SIZE 0;
-  entered = pos 0;
-  uncredited = 0;
+  totals = nothingMoved;
 }
 
 -- an entry of processes that have a place, and of grams that a line can have
@@ -72,8 +77,8 @@ pub record Within (k : ℕ) (l : Ledger) : Type 0 where
   pub indirect : (i : ℕ) → getD (l .indirect) i 0 ≤ k
   pub bought-direct : (i : ℕ) → getD (l .«bought_direct») i 0 ≤ k
   pub bought-indirect : (i : ℕ) → getD (l .«bought_indirect») i 0 ≤ k
-  pub entered : natAbs (l .entered) ≤ k
-  pub uncredited : l .uncredited ≤ k
+  pub entered : natAbs (l .totals .entered .0) ≤ k
+  pub uncredited : l .totals .uncredited .0 ≤ k
 
 -- there is room for one entry more: all figures stay below 2^63
 abbrev pub Room : Ledger → Type 0

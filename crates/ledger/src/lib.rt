@@ -5,7 +5,7 @@ ghost use Prim.Native.Nat.{ℕ, _+_, _^_, _≤_, _<_};
 ghost use lib.ListN.{getD};
 ghost use Rattle.goods.specs.Sums.{sumTo};
 ghost use Rattle.goods.specs.Settling.{SIZE};
-ghost use Rattle.ledger.specs.Ledger.{STEP, Room, Small, balanced, booked, start};
+ghost use Rattle.ledger.specs.Ledger.{STEP, Room, Small, ledgerOf, chargedAndCredited, booked};
 ghost use Rattle.ledger.specs.Raising.{gramsAdded, raisedToZero};
 ghost use Rattle.ledger.specs.Columns.{Column};
 use goods::SIZE;
@@ -32,27 +32,19 @@ pub struct Entry {
     pub lost: Grams,
 }
 
+// The grams of the whole works: what entered it, less what left it, and what stays uncredited.
+pub struct Totals {
+    pub entered: SignedGrams,
+    pub uncredited: Grams,
+}
+
 // The grams of each process by its number, and those of the whole works.
 pub struct Ledger {
     pub balances: [i64; SIZE],
     pub indirect: [u64; SIZE],
     pub bought_direct: [u64; SIZE],
     pub bought_indirect: [u64; SIZE],
-    pub entered: i64,
-    pub uncredited: u64,
-}
-
-pub fn empty() -> Ledger
-    ensures { λ r. ⌜ r ≡ start ⌝ }
-{
-    Ledger {
-        balances: [0; SIZE],
-        indirect: [0; SIZE],
-        bought_direct: [0; SIZE],
-        bought_indirect: [0; SIZE],
-        entered: 0,
-        uncredited: 0,
-    }
+    pub totals: Totals,
 }
 
 // A signed figure with grams added and grams taken off.
@@ -68,47 +60,52 @@ fn changed(held: SignedGrams, more: Grams, less: Grams) -> SignedGrams
 }
 
 // The balances with the charge added and the credit taken off.
-fn with_balances(l: Ledger, e: Entry) -> Ledger
-    requires { ⌜ Room l ⌝ }
+fn charge(balances: &mut [i64; SIZE], e: Entry)
+    requires { ⌜ ((k : ℕ) → natAbs (getD (now balances) k (pos 0)) ≤ 9200000000000000000) ⌝ }
     requires { ⌜ Small e ⌝ }
-    ensures { λ r. ⌜ r ≡ balanced l e ⌝ }
+    ensures { λ r. ⌜ now (balances .exit) ≡ chargedAndCredited (now (balances .entry)) (e .charged) (e .charge .0) (e .credited) (e .credit .0) ⌝ }
 {
-    let mut next = l;
     let none = Grams(0);
     let to = e.charged;
     let charge = e.charge;
-    let held = next.balances[to];
+    let held = balances[to];
     let charged = changed(SignedGrams(held), charge, none);
     let more = charged.0;
-    next.balances[to] = more;
+    balances[to] = more;
     let from = e.credited;
     let credit = e.credit;
-    let kept = next.balances[from];
+    let kept = balances[from];
     let credited = changed(SignedGrams(kept), none, credit);
     let less = credited.0;
-    next.balances[from] = less;
-    next
+    balances[from] = less;
 }
 
-// The entry booked.
-pub fn book(l: Ledger, e: Entry) -> Ledger
-    requires { ⌜ Room l ⌝ }
+// The entry booked in the lent columns of the ledger; the result is the totals after it.
+pub fn book(
+    balances: &mut [i64; SIZE],
+    indirect: &mut [u64; SIZE],
+    bought_direct: &mut [u64; SIZE],
+    bought_indirect: &mut [u64; SIZE],
+    t: Totals,
+    e: Entry,
+) -> Totals
+    requires { ⌜ Room (ledgerOf (now balances) (now indirect) (now «bought_direct») (now «bought_indirect») t) ⌝ }
     requires { ⌜ Small e ⌝ }
-    ensures { λ r. ⌜ r ≡ booked l e ⌝ }
+    ensures { λ r. ⌜ ledgerOf (now (balances .exit)) (now (indirect .exit)) (now («bought_direct» .exit)) (now («bought_indirect» .exit)) r ≡ booked (ledgerOf (now (balances .entry)) (now (indirect .entry)) (now («bought_direct» .entry)) (now («bought_indirect» .entry)) t) e ⌝ }
 {
-    let mut next = with_balances(l, e);
-    let entering = e.entering;
-    let leaving = e.leaving;
-    let entered = changed(SignedGrams(next.entered), entering, leaving);
-    let grams = entered.0;
-    next.entered = grams;
+    charge(balances, e);
     let user = e.user;
     let buyer = e.buyer;
-    next.indirect[user] += e.power.0;
-    next.bought_direct[buyer] += e.direct.0;
-    next.bought_indirect[buyer] += e.indirect.0;
-    next.uncredited += e.lost.0;
-    next
+    indirect[user] += e.power.0;
+    bought_direct[buyer] += e.direct.0;
+    bought_indirect[buyer] += e.indirect.0;
+    let held = t.entered;
+    let entered = changed(held, e.entering, e.leaving);
+    let uncredited = t.uncredited.0 + e.lost.0;
+    Totals {
+        entered: entered,
+        uncredited: Grams(uncredited),
+    }
 }
 
 // A balance raised to zero where it is below: the outcome, and the grams added.

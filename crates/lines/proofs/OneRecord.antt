@@ -76,7 +76,7 @@ spell-field bytes h = go (isNumber bytes) refl (isDash bytes) refl h
 
 -- ---- kinds and their letters
 
-kind-letter : (k : Kind) → kindOf (letter k) ≡ k
+pub kind-letter : (k : Kind) → kindOf (letter k) ≡ k
 kind-letter Process = refl
 kind-letter SourceStream = refl
 kind-letter Heat = refl

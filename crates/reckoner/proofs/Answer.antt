@@ -109,7 +109,7 @@ module _ (sheet : List ℕ) where
         }
 
         -- THE THIRD PROPERTY of the returned totals
-        pub accepted-sum : pos (c .left .0) ≡ read .works .ledger .entered +ℤ pos (c .«total_raised» .0) +ℤ pos (read .works .ledger .uncredited)
+        pub accepted-sum : pos (c .left .0) ≡ read .works .ledger .totals .entered .0 +ℤ pos (c .«total_raised» .0) +ℤ pos (read .works .ledger .totals .uncredited .0)
         accepted-sum = rw (figured .left-is, figured .entered-is, figured .raised-is, figured .uncredited-is) (left-is-entered-raised-uncredited (recordsOf sheet) ok)
 
         -- row 15 does not apply
@@ -136,12 +136,12 @@ module _ (sheet : List ℕ) where
             least (pos n) h = refl
             least (negsuc n) h = lt-leb 9223372036854775807 n (omega arith)
 
-            totals : largeTotals (c .left .0) (read .works .ledger .entered) (c .«total_raised» .0) (read .works .ledger .uncredited) ≡ false
+            totals : largeTotals (c .left .0) (read .works .ledger .totals .entered .0) (c .«total_raised» .0) (read .works .ledger .totals .uncredited .0) ≡ false
             totals =
                 let g = of .gathered zero in
                 rw (
                   lt-leb (2 ^ 63) (c .left .0) (omega (arith, figured .left-is, left-total (recordsOf sheet) ok (read .works) kilos g)),
-                  least (read .works .ledger .entered) (g .room .entered),
+                  least (read .works .ledger .totals .entered .0) (g .room .entered),
                   lt-leb (2 ^ 63) (c .«total_raised» .0) (omega (arith, figured .raised-is, g .raised)),
-                  lt-leb (2 ^ 63) (read .works .ledger .uncredited) (omega (arith, g .room .uncredited)),
+                  lt-leb (2 ^ 63) (read .works .ledger .totals .uncredited .0) (omega (arith, g .room .uncredited)),
                 )

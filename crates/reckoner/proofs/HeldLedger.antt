@@ -25,8 +25,8 @@ pub record HeldLedger (above : List Record) (l : Ledger) : Type 0 where
   pub indirect : (i : ℕ) → getD (l .indirect) i 0 ≡ sumOf (λ r. onlyAt i (entry r .user) (entry r .power .0)) above
   pub bought-direct : (i : ℕ) → getD (l .«bought_direct») i 0 ≡ sumOf (λ r. onlyAt i (entry r .buyer) (entry r .direct .0)) above
   pub bought-indirect : (i : ℕ) → getD (l .«bought_indirect») i 0 ≡ sumOf (λ r. onlyAt i (entry r .buyer) (entry r .indirect .0)) above
-  pub entered : l .entered ≡ diff (sumOf (λ r. entry r .entering .0) above) (sumOf (λ r. entry r .leaving .0) above)
-  pub uncredited : l .uncredited ≡ sumOf (λ r. entry r .lost .0) above
+  pub entered : l .totals .entered .0 ≡ diff (sumOf (λ r. entry r .entering .0) above) (sumOf (λ r. entry r .leaving .0) above)
+  pub uncredited : l .totals .uncredited .0 ≡ sumOf (λ r. entry r .lost .0) above
   pub within : Within (length above * STEP) l
   -- what all lines put into processes, and what they take from them
   pub into : sumOf intoProcesses above ≤ length above * STEP
@@ -72,8 +72,8 @@ held-booked above l r m h = record {
     more : suc (length above) * STEP ≡ length above * STEP + STEP
     more = omega arith
 
-    entered-booked : booked l (entry r) .entered ≡ diff (entry r .entering .0 + sumOf (λ q. entry q .entering .0) above) (entry r .leaving .0 + sumOf (λ q. entry q .leaving .0) above)
+    entered-booked : booked l (entry r) .totals .entered .0 ≡ diff (entry r .entering .0 + sumOf (λ q. entry q .entering .0) above) (entry r .leaving .0 + sumOf (λ q. entry q .leaving .0) above)
     entered-booked = ap (λ (z : ℤ). z +ℤ pos (entry r .entering .0) -ℤ pos (entry r .leaving .0)) (h .entered) ∙ moved _ _ _ _
 
-    uncredited-booked : booked l (entry r) .uncredited ≡ entry r .lost .0 + sumOf (λ q. entry q .lost .0) above
+    uncredited-booked : booked l (entry r) .totals .uncredited .0 ≡ entry r .lost .0 + sumOf (λ q. entry q .lost .0) above
     uncredited-booked = omega (arith, h .uncredited)

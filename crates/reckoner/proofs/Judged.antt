@@ -73,7 +73,7 @@ good-placed OwnGood count words ended above g h =
     let f = fields-zero OwnGood count words ended above h in
     let a = else-zero _ _ f in
     let b = else-zero _ _ (a .1) in
-    record { from-in = omega (arith, word-in 0 16 (getD words 0 0) (a .0)); to-in = omega (arith, word-in 0 16 (getD words 1 0) (b .0)) }
+    record { from-in = omega (arith, word-in 0 (limits .processes) (getD words 0 0) (a .0)); to-in = omega (arith, word-in 0 (limits .processes) (getD words 1 0) (b .0)) }
 good-placed Process count words ended above g h = absurd (never g)
 good-placed SourceStream count words ended above g h = absurd (never g)
 good-placed Heat count words ended above g h = absurd (never g)

@@ -18,7 +18,7 @@ use Rattle.lines.specs.declared.LineRead.{LineRead}
 use Rattle.goods.specs.Settling.{SIZE}
 use Rattle.goods.specs.Sums.{onlyAt}
 use Rattle.goods.proofs.Sums.{at-same, at-other, at-none}
-use Rattle.ledger.specs.Ledger.{Small, booked}
+use Rattle.ledger.specs.Ledger.{Small, Room, booked}
 use Rattle.ledger.proofs.Bounds.{within-more}
 use Rattle.quantity.specs.Limits.{limits}
 use Rattle.sheet.specs.Kinds.{Rule, rulesOf}
@@ -57,15 +57,16 @@ pub record Standing (above : List Record) (w : Works) (kilos : List ℕ) : Type 
 
 -- ---- there is room for one line more
 
-pub roomy : (above : List Record) (w : Works) (kilos : List ℕ) → Standing above w kilos → Roomy w kilos
+pub roomy : (above : List Record) (w : Works) (kilos : List ℕ) → Standing above w kilos → Roomy (w .count) (w .outputs) (w .taken) kilos
 roomy above w kilos s = record {
-  lines = omega (arith, s .lines, s .few);
   count = omega (arith, s .held .few, s .few);
   outputs = λ i. omega (arith, s .goods .outputs-small i, s .few);
   taken = λ i. omega (arith, s .goods .taken-small i, s .few);
   pairs = λ i. omega (arith, s .goods .kilos-small i, s .few);
-  ledger = within-more (omega (arith, s .few)) (s .ledger .within);
 }
+
+pub room : (above : List Record) (w : Works) (kilos : List ℕ) → Standing above w kilos → Room (w .ledger)
+room above w kilos s = within-more (omega (arith, s .few)) (s .ledger .within)
 
 -- what is held of a G line's processes
 pub good-held : (above : List Record) (w : Works) (kilos : List ℕ) → Standing above w kilos → (kind : Kind) (f t : ℕ)

@@ -28,8 +28,8 @@ pub record Gathered (rs : List Record) (w : Works) (kilos : List ℕ) : Type 0 w
   pub indirect-at : (i : ℕ) → getD (w .ledger .indirect) i 0 ≡ indirect rs i
   pub bought-direct-at : (i : ℕ) → getD (w .ledger .«bought_direct») i 0 ≡ boughtDirect rs i
   pub bought-indirect-at : (i : ℕ) → getD (w .ledger .«bought_indirect») i 0 ≡ boughtIndirect rs i
-  pub entered-is : w .ledger .entered ≡ entered rs
-  pub uncredited-is : w .ledger .uncredited ≡ uncredited rs
+  pub entered-is : w .ledger .totals .entered .0 ≡ entered rs
+  pub uncredited-is : w .ledger .totals .uncredited .0 ≡ uncredited rs
   pub made : (i : ℕ) → 1 ≤ i → i ≤ w .count → 1 ≤ output rs i
   -- the bounds that keep every sum inside 63 bits
   pub outputs-small : (i : ℕ) → output rs i ≤ MOST

@@ -105,8 +105,8 @@ acceptedAs w c = record {
   count = w .count;
   outputs = w .outputs;
   figures = c;
-  entered = record { 0 = w .ledger .entered };
-  uncredited = record { 0 = w .ledger .uncredited };
+  entered = w .ledger .totals .entered;
+  uncredited = w .ledger .totals .uncredited;
 }
 
 abbrev pub large : Reckoning → Bool

@@ -1,6 +1,6 @@
 // Document 01, "Attribution", "Goods and precursors" and the figures of "The report": a sheet's bytes to its reckoning.
 pub mod judging; // a line that was read, judged under the lines above it
-pub mod noting; // one line more
+pub mod noting;
 pub mod reading; // a sheet read from the top
 
 ghost use mathlib.Core.Path.{_≡_};
@@ -101,6 +101,9 @@ fn figures_of(works: Works, kilos: &[u64; PAIRS]) -> Reckoning
 {
     let ledger = works.ledger;
     let outputs = works.outputs;
+    let totals = ledger.totals;
+    let entered = totals.entered;
+    let uncredited = totals.uncredited;
     let figures = close(ledger, outputs, kilos, works.count);
     Reckoning {
         refusal: Refusal::Accepted,
@@ -108,8 +111,8 @@ fn figures_of(works: Works, kilos: &[u64; PAIRS]) -> Reckoning
         count: works.count,
         outputs: outputs,
         figures: figures,
-        entered: SignedGrams(ledger.entered),
-        uncredited: Grams(ledger.uncredited),
+        entered: entered,
+        uncredited: uncredited,
     }
 }
 

@@ -1,14 +1,19 @@
 // A sheet read from the top, each line judged and noted: one pass over the bytes.
 ghost use mathlib.Core.Path.{_≡_};
-ghost use Rattle.reckoner.specs.Works.{worksAtStart};
+ghost use Rattle.ledger.specs.Ledger.{nothingMoved};
 ghost use Rattle.reckoner.specs.Gathered.{ReadOf, NoKilos};
 use super::judging::Works;
 use super::judging::line_refusal;
-use super::noting::with_line;
+use super::noting::note;
+use entries::weigh;
 use goods::PAIRS;
 use goods::SIZE;
-use ledger::empty;
+use ledger::Ledger;
+use ledger::Totals;
+use ledger::book;
 use lines::read_line;
+use quantity::Grams;
+use quantity::SignedGrams;
 use sheet::refusals::Refusal;
 use sheet::refusals::refusal_number;
 
@@ -19,17 +24,38 @@ pub struct Read {
     pub works: Works,
 }
 
-// Above the first line.
-fn nothing_above() -> Works
-    ensures { λ r. ⌜ r ≡ worksAtStart ⌝ }
+// Nothing entered the works, and nothing is uncredited.
+fn nothing_moved() -> Totals
+    ensures { λ r. ⌜ r ≡ nothingMoved ⌝ }
 {
-    let ledger = empty();
-    Works {
+    Totals {
+        entered: SignedGrams(0),
+        uncredited: Grams(0),
+    }
+}
+
+// A refused sheet: no line counts.
+fn refused_at(refusal: Refusal, line: usize) -> Read
+    ensures { λ r. ⌜ (r .refusal ≡ refusal) × (r .line ≡ line) ⌝ }
+{
+    let ledger = Ledger {
+        balances: [0; SIZE],
+        indirect: [0; SIZE],
+        bought_direct: [0; SIZE],
+        bought_indirect: [0; SIZE],
+        totals: nothing_moved(),
+    };
+    let works = Works {
         lines: 0,
         count: 0,
         outputs: [0; SIZE],
         taken: [0; SIZE],
-        ledger: ledger,
+        ledger,
+    };
+    Read {
+        refusal,
+        line,
+        works,
     }
 }
 
@@ -38,24 +64,51 @@ pub fn read_lines(s: &[u8], kilos: &mut [u64; PAIRS]) -> Read
     requires { ⌜ NoKilos (now kilos) ⌝ }
     ensures { λ r. ⌜ ReadOf (now (s .entry)) (now (kilos .exit)) r ⌝ }
 {
-    let mut works = nothing_above();
+    let mut balances: [i64; SIZE] = [0; SIZE];
+    let mut indirect: [u64; SIZE] = [0; SIZE];
+    let mut bought_direct: [u64; SIZE] = [0; SIZE];
+    let mut bought_indirect: [u64; SIZE] = [0; SIZE];
+    let mut outputs: [u64; SIZE] = [0; SIZE];
+    let mut taken: [u64; SIZE] = [0; SIZE];
+    let mut totals = nothing_moved();
+    let mut lines: usize = 0;
+    let mut count: usize = 0;
     let mut at: usize = 0;
     while at < s.len() {
         let l = read_line(s, at);
-        let refusal = line_refusal(works, kilos, l, s.len());
+        let refusal = line_refusal(lines, count, &outputs, &taken, kilos, l, s.len());
         if refusal_number(refusal) != 0 {
-            return Read {
-                refusal: refusal,
-                line: works.lines + 1,
-                works: works,
-            };
+            return refused_at(refusal, lines + 1);
         }
-        works = with_line(works, kilos, l);
         at = l.end + 1;
+        totals = book(
+            &mut balances,
+            &mut indirect,
+            &mut bought_direct,
+            &mut bought_indirect,
+            totals,
+            weigh(l),
+        );
+        count = note(count, &mut outputs, &mut taken, kilos, l);
+        lines += 1;
     }
+    let ledger = Ledger {
+        balances,
+        indirect,
+        bought_direct,
+        bought_indirect,
+        totals,
+    };
+    let works = Works {
+        lines,
+        count,
+        outputs,
+        taken,
+        ledger,
+    };
     Read {
         refusal: Refusal::Accepted,
         line: 0,
-        works: works,
+        works,
     }
 }

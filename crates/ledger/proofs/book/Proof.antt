@@ -1,129 +1,111 @@
 -- `ledger::book` meets its contract. Assumes nothing.
-use mathlib.Core.Path.{_≡_}
+use mathlib.Core.Path.{ap}
 use mathlib.Core.List.{List}
 use Prim.Native.Nat.{ℕ, _+_, _≤_}
 use native.Mathlib.Omega.{arith}
 use borrow.Author.Needs.{needs}
-use lib.IntN.{ℤ, pos, _+ℤ_, _-ℤ_}
+use lib.IntN.{ℤ}
 use lib.ListN.{getD}
 use mir.Syntax.{w64}
-use mir.Val.{Fits, toZ, ofZ}
-use Rattle.ledger.specs.Ledger.{STEP, balanced, booked}
-use Rattle.ledger.proofs.Sizes.{kept, size-moved}
+use mir.Val.{Fits}
+use Rattle.ledger.specs.Ledger.{STEP, added, chargedAndCredited, ledgerOf, booked}
 use Rattle.ledger.proofs.book.Statement.{statement}
 use Rattle.ledger.proofs.book.Tie as tie
-
--- what entered, which fits before and after
-module _ (c : tie.Start) where
-  abbrev outcome : ℤ
-  outcome = c .args .l .entered +ℤ pos (c .args .e .entering .0) -ℤ pos (c .args .e .leaving .0)
-
-  entered-fits : toZ w64 (ofZ w64 (c .args .l .entered)) ≡ c .args .l .entered
-  entered-fits = kept _ (omega (arith, c .pre .0 .entered))
-
-  outcome-fits : toZ w64 (ofZ w64 outcome) ≡ outcome
-  outcome-fits =
-      kept outcome (
-      omega (
-        arith,
-        size-moved STEP (c .args .l .entered) (c .args .e .entering .0) (c .args .e .leaving .0) (c .pre .1 .entering) (c .pre .1 .leaving),
-        c .pre .0 .entered,
-      ))
-
-after-changed : (c : tie.After-changed) → c .changed .result .0 ≡ outcome (c .before .before .before .before .before)
-unfolding balanced
-after-changed c =
-    let k = c .before .before .before .before in
-    simp (k .with-balances .ensures, entered-fits (k .before)) at (c .changed .ensures)
+use Rattle.ledger.proofs.book.Reads as reads
+use Rattle.ledger.proofs.book.Lts as lts
+use Rattle.ledger.proofs.changed.Reads as changed-reads
+use Rattle.ledger.proofs.charge.Reads as charge-reads
 
 -- every place has room
 added-fits : (l : List ℕ) (i amount : ℕ) → ((j : ℕ) → getD l j 0 ≤ 9200000000000000000) → amount ≤ STEP → Fits w64 (getD l i 0 + amount)
 added-fits l i amount h small = record { fits = omega (arith, h i) }
 
-with-balances-requires : tie.Need-with-balances-requires
-with-balances-requires c κs = search needs
+charge-requires : tie.Need-charge-requires
+charge-requires c κs = search needs
+
+mul-indirect : tie.Need-mul-indirect
+mul-indirect c = search needs
+
+element-copy-out-indirect : tie.Need-element-copy-out-indirect
+element-copy-out-indirect c = search needs
+
+add-indirect : tie.Need-add-indirect
+add-indirect c =
+    let k = c .before .before .before .before in
+    added-fits (k .args .indirect .now) _ (k .args .e .power .0) (k .pre .0 .indirect) (omega (arith, k .pre .1 .into))
+
+element-write-indirect : tie.Need-element-write-indirect
+element-write-indirect c = search needs
+
+mul-bought-direct : tie.Need-mul-bought-direct
+mul-bought-direct c = search needs
+
+element-copy-out-bought-direct : tie.Need-element-copy-out-bought-direct
+element-copy-out-bought-direct c = search needs
+
+add-bought-direct : tie.Need-add-bought-direct
+add-bought-direct c =
+    let k = c .before .before .before .before .before .before in
+    added-fits (k .args .bought-direct .now) _ (k .args .e .direct .0) (k .pre .0 .bought-direct) (omega (arith, k .pre .1 .into))
+
+element-write-bought-direct : tie.Need-element-write-bought-direct
+element-write-bought-direct c = search needs
+
+mul-bought-indirect : tie.Need-mul-bought-indirect
+mul-bought-indirect c = search needs
+
+element-copy-out-bought-indirect : tie.Need-element-copy-out-bought-indirect
+element-copy-out-bought-indirect c = search needs
+
+add-bought-indirect : tie.Need-add-bought-indirect
+add-bought-indirect c =
+    let k = c .before .before .before .before .before .before .before .before in
+    added-fits (k .args .bought-indirect .now) _ (k .args .e .indirect .0) (k .pre .0 .bought-indirect) (omega (arith, k .pre .1 .into))
+
+element-write-bought-indirect : tie.Need-element-write-bought-indirect
+element-write-bought-indirect c = search needs
 
 changed-requires : tie.Need-changed-requires
-unfolding balanced
-changed-requires c κs =
-    let k = c .before .before .before in
-    let m = k .before .pre .1 in
-    simp (k .with-balances .ensures, entered-fits (k .before)) (omega (arith, k .before .pre .0 .entered), (omega arith, omega arith))
+changed-requires c κs = search needs
 
-mul-next : tie.Need-mul-next
-mul-next c = search needs
-
-element-copy-out-next : tie.Need-element-copy-out-next
-element-copy-out-next c = search needs
-
-add-next : tie.Need-add-next
-unfolding balanced
-add-next c =
-    let k = c .before .before .before .before .before .before .before in
-    rw (k .with-balances .ensures) (added-fits (k .before .args .l .indirect) _ (k .before .args .e .power .0) (k .before .pre .0 .indirect) (omega (arith, k .before .pre .1 .into)))
-
-element-write-next : tie.Need-element-write-next
-element-write-next c = search needs
-
-mul-next-2 : tie.Need-mul-next-2
-mul-next-2 c = search needs
-
-element-copy-out-next-2 : tie.Need-element-copy-out-next-2
-element-copy-out-next-2 c = search needs
-
-add-next-2 : tie.Need-add-next-2
-unfolding balanced
-add-next-2 c =
-    let k = c .before .before .before .before .before .before .before .before .before in
-    rw (k .with-balances .ensures) (added-fits (k .before .args .l .«bought_direct») _ (k .before .args .e .direct .0) (k .before .pre .0 .bought-direct) (omega (arith, k .before .pre .1 .into)))
-
-element-write-next-2 : tie.Need-element-write-next-2
-element-write-next-2 c = search needs
-
-mul-next-3 : tie.Need-mul-next-3
-mul-next-3 c = search needs
-
-element-copy-out-next-3 : tie.Need-element-copy-out-next-3
-element-copy-out-next-3 c = search needs
-
-add-next-3 : tie.Need-add-next-3
-unfolding balanced
-add-next-3 c =
-    let k = c .before .before .before .before .before .before .before .before .before .before .before in
-    rw (k .with-balances .ensures) (added-fits (k .before .args .l .«bought_indirect») _ (k .before .args .e .indirect .0) (k .before .pre .0 .bought-indirect) (omega (arith, k .before .pre .1 .into)))
-
-element-write-next-3 : tie.Need-element-write-next-3
-element-write-next-3 c = c .before .before .before .before .before .before .before .before .before .before .before .before .pre .1 .buyer-in
-
-add-next-4 : tie.Need-add-next-4
-unfolding balanced
-add-next-4 c =
+add-uncredited : tie.Need-add-uncredited
+add-uncredited c =
     let k = c .before .before .before .before .before .before .before .before .before .before .before .before in
-    rw (k .with-balances .ensures) (record { fits = omega (arith, k .before .pre .0 .uncredited, k .before .pre .1 .lost) })
+    record { fits = omega (arith, k .pre .0 .uncredited, k .pre .1 .lost) }
 
 returns : tie.Need-returns
-unfolding balanced booked
+unfolding booked
 returns c =
     let k = c .before .before .before .before .before .before .before .before .before .before .before .before in
-    simp (k .with-balances .ensures, after-changed (c .before .before .before .before .before .before .before .before), outcome-fits (k .before))
+    let e = k .args .e in
+    rw (c .before .before .before .before .before .before .before .before .before .before .charge .ensures)
+    (ap
+    (λ (z : ℤ).
+    ledgerOf
+    (chargedAndCredited (k .args .balances .now) (e .charged) (e .charge .0) (e .credited) (e .credit .0))
+    (added (k .args .indirect .now) (e .user) (e .power .0))
+    (added (k .args .bought-direct .now) (e .buyer) (e .direct .0))
+    (added (k .args .bought-indirect .now) (e .buyer) (e .indirect .0))
+    (record { entered = record { 0 = z }; uncredited = record { 0 = k .args .t .uncredited .0 + e .lost .0 } }))
+    (c .before .before .changed .ensures))
 
 pub book-spec : {M : Type 1} → statement M
 book-spec =
     tie.close
     (tie.spec
-    with-balances-requires
+    charge-requires
+    mul-indirect
+    element-copy-out-indirect
+    add-indirect
+    element-write-indirect
+    mul-bought-direct
+    element-copy-out-bought-direct
+    add-bought-direct
+    element-write-bought-direct
+    mul-bought-indirect
+    element-copy-out-bought-indirect
+    add-bought-indirect
+    element-write-bought-indirect
     changed-requires
-    mul-next
-    element-copy-out-next
-    add-next
-    element-write-next
-    mul-next-2
-    element-copy-out-next-2
-    add-next-2
-    element-write-next-2
-    mul-next-3
-    element-copy-out-next-3
-    add-next-3
-    element-write-next-3
-    add-next-4
+    add-uncredited
     returns)

@@ -1,12 +1,13 @@
 use mathlib.Core.Path.{sym, _∙_}
 use borrow.Author.Needs.{needs}
+use borrow.Author.Tests.{eq-eqb, ne-eqb}
 use Rattle.reckoner.proofs.Judged.{else-first, else-next, order-no-good, good-placed}
 use Rattle.reckoner.proofs.judging.line_refusal.Statement.{statement}
 use Rattle.reckoner.proofs.judging.line_refusal.Tie as tie
 use Rattle.reckoner.proofs.judging.line_refusal.Reads as reads
 use Rattle.reckoner.proofs.judging.line_refusal.Lts as lts
 use Rattle.reckoner.proofs.judging.good_refusal.Reads as good-refusal-reads
-use Rattle.reckoner.proofs.judging.is_good.Reads as is-good-reads
+use Rattle.reckoner.proofs.judging.letter_of.Reads as letter-of-reads
 use Rattle.sheet.proofs.order.order_refusal.Reads as order-refusal-reads
 use Rattle.sheet.proofs.refusals.refusal_number.Reads as refusal-number-reads
 use Rattle.sheet.proofs.shape.shape_refusal.Reads as shape-refusal-reads
@@ -22,14 +23,14 @@ returns c =
     let shape = c .before .before .shape-refusal .ensures in
     shape ∙ else-first _ _ (λ z. c .if1 .taken (c .before .refusal-number .ensures ∙ shape ∙ z))
 
-is-good-requires : tie.Need-is-good-requires
-is-good-requires c κs = search needs
+letter-of-requires : tie.Need-letter-of-requires
+letter-of-requires c κs = search needs
 
 good-refusal-requires : tie.Need-good-refusal-requires
 good-refusal-requires c κs =
     let shape = c .before .before .before .before .shape-refusal .ensures in
     let zero = sym shape ∙ sym (c .before .before .before .refusal-number .ensures) ∙ c .before .before .if1 .left in
-    let p = good-placed _ _ _ _ _ (sym (c .before .is-good .ensures) ∙ c .if2 .taken) zero in
+    let p = good-placed _ _ _ _ _ (eq-eqb _ _ (sym (c .before .letter-of .ensures) ∙ c .if2 .taken)) zero in
     (p .from-in, p .to-in)
 
 returns-2 : tie.Need-returns-2
@@ -45,7 +46,7 @@ returns-3 : tie.Need-returns-3
 returns-3 c =
     let shape = c .before .before .before .before .before .shape-refusal .ensures in
     let zero = sym shape ∙ sym (c .before .before .before .before .refusal-number .ensures) ∙ c .before .before .before .if1 .left in
-    else-next _ _ _ zero (c .order-refusal .ensures ∙ order-no-good _ _ _ _ _ _ _ (sym (c .before .before .is-good .ensures) ∙ c .before .if2 .left))
+    else-next _ _ _ zero (c .order-refusal .ensures ∙ order-no-good _ _ _ _ _ _ _ (ne-eqb _ _ (λ e. c .before .if2 .left (c .before .before .letter-of .ensures ∙ e))))
 
 pub line-refusal-spec : {M : Type 1} → statement M
 line-refusal-spec =
@@ -54,7 +55,7 @@ line-refusal-spec =
     shape-refusal-requires
     refusal-number-requires
     returns
-    is-good-requires
+    letter-of-requires
     good-refusal-requires
     returns-2
     order-refusal-requires

@@ -1,4 +1,4 @@
--- `ledger::with_balances` meets its contract. Assumes nothing.
+-- `ledger::charge` meets its contract. Assumes nothing.
 use mathlib.Core.Path.{_≡_, ap, _∙_}
 use mathlib.Core.List.{List}
 use Prim.Native.Nat.{_≤_}
@@ -8,16 +8,16 @@ use lib.IntN.{ℤ, pos, natAbs, _+ℤ_, _-ℤ_, +ℤ-idr}
 use lib.ListN.{getD, set}
 use mir.Syntax.{w64}
 use mir.Val.{toZ, ofZ}
-use Rattle.ledger.specs.Ledger.{balanced, chargedAndCredited}
+use Rattle.ledger.specs.Ledger.{chargedAndCredited}
 use Rattle.ledger.proofs.Sizes.{kept, size-plus, size-minus}
 use Rattle.ledger.proofs.Bounds.{each-charged}
-use Rattle.ledger.proofs.with_balances.Statement.{statement}
-use Rattle.ledger.proofs.with_balances.Tie as tie
+use Rattle.ledger.proofs.charge.Statement.{statement}
+use Rattle.ledger.proofs.charge.Tie as tie
 
 -- the figures on the way, which all fit
 module _ (c : tie.Start) where
   abbrev b : List ℤ
-  b = c .args .l .balances
+  b = c .args .balances .now
 
   abbrev held : ℤ
   held = getD b (c .args .e .charged) (pos 0)
@@ -32,11 +32,11 @@ module _ (c : tie.Start) where
   less = left -ℤ pos (c .args .e .credit .0)
 
   held-fits : toZ w64 (ofZ w64 held) ≡ held
-  held-fits = kept held (omega (arith, c .pre .0 .balances (c .args .e .charged)))
+  held-fits = kept held (omega (arith, c .pre .0 (c .args .e .charged)))
 
   more-small : natAbs more ≤ 9210000000000000000
   more-small =
-      omega (arith, size-plus held (c .args .e .charge .0), c .pre .0 .balances (c .args .e .charged), c .pre .1 .moved)
+      omega (arith, size-plus held (c .args .e .charge .0), c .pre .0 (c .args .e .charged), c .pre .1 .moved)
 
   more-fits : toZ w64 (ofZ w64 more) ≡ more
   more-fits = kept more (omega (arith, more-small))
@@ -45,7 +45,7 @@ module _ (c : tie.Start) where
   left-small =
       omega (
         arith,
-        each-charged 9200000000000000000 b (c .pre .0 .balances) (c .args .e .charged) (c .args .e .charge .0) (c .args .e .credited),
+        each-charged 9200000000000000000 b (c .pre .0) (c .args .e .charged) (c .args .e .charge .0) (c .args .e .credited),
         c .pre .1 .moved,
       )
 
@@ -75,7 +75,7 @@ element-copy-out-held c = search needs
 changed-requires : tie.Need-changed-requires
 changed-requires c κs =
     let k = c .before .before in
-    rw (held-fits k) (omega (arith, k .pre .0 .balances (k .args .e .charged)), (omega (arith, k .pre .1 .moved), omega arith))
+    rw (held-fits k) (omega (arith, k .pre .0 (k .args .e .charged)), (omega (arith, k .pre .1 .moved), omega arith))
 
 mul-more : tie.Need-mul-more
 mul-more c = search needs
@@ -101,13 +101,13 @@ element-set-from-less : tie.Need-element-set-from-less
 element-set-from-less c = search needs
 
 returns : tie.Need-returns
-unfolding balanced chargedAndCredited
+unfolding chargedAndCredited
 returns c =
     let k = c .before .before .before .before .before .before .before .before in
     simp (after-credit (c .before), after-charge (c .before .before .before .before .before), more-fits k, less-fits k)
 
-pub with-balances-spec : {M : Type 1} → statement M
-with-balances-spec =
+pub charge-spec : {M : Type 1} → statement M
+charge-spec =
     tie.close
     (tie.spec
     mul-held

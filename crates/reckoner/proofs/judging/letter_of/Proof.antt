@@ -1,8 +1,8 @@
 use borrow.Author.Needs.{needs}
-use Rattle.reckoner.proofs.judging.is_good.Statement.{statement}
-use Rattle.reckoner.proofs.judging.is_good.Tie as tie
-use Rattle.reckoner.proofs.judging.is_good.Reads as reads
-use Rattle.reckoner.proofs.judging.is_good.Lts as lts
+use Rattle.reckoner.proofs.judging.letter_of.Statement.{statement}
+use Rattle.reckoner.proofs.judging.letter_of.Tie as tie
+use Rattle.reckoner.proofs.judging.letter_of.Reads as reads
+use Rattle.reckoner.proofs.judging.letter_of.Lts as lts
 
 enum-told : tie.Need-enum-told
 enum-told c = search needs
@@ -52,8 +52,8 @@ returns-7 c = rw (c .enum-told7 .given .1)
 returns-8 : tie.Need-returns-8
 returns-8 c = rw (c .enum-told8 .given .1)
 
-pub is-good-spec : {M : Type 1} → statement M
-is-good-spec =
+pub letter-of-spec : {M : Type 1} → statement M
+letter-of-spec =
     tie.close
     (tie.spec
     enum-told
