@@ -1,0 +1,134 @@
+//! The carbon balance sheet of an installation: a sheet goes in, a report or a refusal comes out.
+//!
+//! [`report()`] does the whole job:
+//!
+//! ```
+//! let sheet = b"P,1,5\nE,1,0,1,1000\n";
+//! match wiltoresh::report(sheet) {
+//!     Ok(report) => print!("{report}"),
+//!     Err(refusal) => eprintln!("{refusal}"),
+//! }
+//! # assert_eq!(
+//! #     wiltoresh::report(sheet).unwrap().as_bytes(),
+//! #     b"R,1,0,0,1,0,0,0,0,0.000,0.000\nT,0,-1,1,0\n"
+//! # );
+//! ```
+//!
+//! [`report_into`] does it in a space that the caller lends, without allocating. The functions that they call are proved:
+//! outcome, line number, report length and every byte of the space follow by equation from sheet and space. They keep no
+//! state and are safe from several threads at once.
+
+#![warn(missing_docs)]
+
+mod ffi;
+mod refusal;
+mod report;
+
+use std::ops::Range;
+
+pub use refusal::{meaning, Refusal};
+pub use report::Report;
+
+/// The answer to a sheet and a lent space, as [`report_into`] gives it.
+#[derive(Clone, Copy, Debug, PartialEq, Eq, Hash)]
+pub struct Answer {
+    /// 0 for an accepted sheet, or else the refusal's number, 1 to 16.
+    pub number: u64,
+    /// The number of the offending line, the first being 1; 0 for a refusal of the whole sheet and for an accepted one.
+    pub line: usize,
+    /// The report's length; 0 for a refusal.
+    pub length: usize,
+}
+
+/// The report of the sheet, or the refusal with the offending line. Every sheet may be given.
+///
+/// The space is long enough for every report, so the refusal's number is never 16.
+///
+/// ```
+/// let report = wiltoresh::report(b"P,1,5\n")?;
+/// assert_eq!(report.as_bytes(), b"R,1,0,0,0,0,0,0,0,0.000,0.000\nT,0,0,0,0\n");
+///
+/// let refusal = wiltoresh::report(b"P,1,5\nW,1,2,9\n").unwrap_err();
+/// assert_eq!((refusal.number(), refusal.line()), (9, 2));
+/// assert_eq!(refusal.text(), b"W,1,2,9");
+/// # Ok::<(), wiltoresh::Refusal>(())
+/// ```
+pub fn report(sheet: &[u8]) -> Result<Report, Refusal<'_>> {
+    let mut space = vec![0; longest()];
+    let answer = report_into(sheet, &mut space);
+    if answer.number != 0 {
+        let text = &sheet[line_place(sheet, answer.line)];
+        return Err(Refusal::new(answer.number, answer.line, text));
+    }
+    space.truncate(answer.length);
+    Ok(Report::new(space))
+}
+
+/// The whole job in a lent space: the report of an accepted sheet stands at the start of the space.
+///
+/// Every byte past the report is as it was. For a refusal, 16 (the space is too short) included, every byte of the space
+/// is as it was. A space of [`longest`] bytes is never refused by 16. Nothing is allocated.
+///
+/// ```
+/// use wiltoresh::{report_into, Answer};
+///
+/// let mut space = [b'#'; 50];
+/// let answer = report_into(b"P,1,5\n", &mut space);
+/// assert_eq!(answer, Answer { number: 0, line: 0, length: 40 });
+/// assert_eq!(&space[..40], b"R,1,0,0,0,0,0,0,0,0.000,0.000\nT,0,0,0,0\n");
+/// assert_eq!(&space[40..], [b'#'; 10]);
+///
+/// let answer = report_into(b"P,1,5\n", &mut space[..39]);
+/// assert_eq!(answer, Answer { number: 16, line: 0, length: 0 });
+/// ```
+pub fn report_into(sheet: &[u8], space: &mut [u8]) -> Answer {
+    let mut line = 0;
+    let mut length = 0;
+    // SAFETY: the pointers come from references, so they are valid for their lengths and not null; `sheet` is lent for
+    // reading and the other three for writing, so none of them overlap.
+    let number = unsafe {
+        ffi::wiltoresh_report(
+            sheet.as_ptr(),
+            sheet.len(),
+            space.as_mut_ptr(),
+            space.len(),
+            &mut line,
+            &mut length,
+        )
+    };
+    Answer {
+        number,
+        line,
+        length,
+    }
+}
+
+/// The place of a line in the sheet, without its LF. The first line is 1; bytes after the last LF count as a line.
+///
+/// Line 0 has the empty place at the sheet's start, and a line past the last one the empty place at its end, so the
+/// place can be taken of the sheet whatever the line is.
+///
+/// ```
+/// let sheet = b"P,1,5\nW,1,2,9\n";
+/// assert_eq!(wiltoresh::line_place(sheet, 2), 6..13);
+/// assert_eq!(&sheet[wiltoresh::line_place(sheet, 2)], b"W,1,2,9");
+/// assert_eq!(wiltoresh::line_place(sheet, 0), 0..0);
+/// assert_eq!(wiltoresh::line_place(sheet, 3), 14..14);
+/// ```
+pub fn line_place(sheet: &[u8], line: usize) -> Range<usize> {
+    let mut start = 0;
+    // SAFETY: the pointers come from references, so they are valid and not null, and `start` is no part of the sheet.
+    let length = unsafe { ffi::wiltoresh_line(sheet.as_ptr(), sheet.len(), line, &mut start) };
+    start..start + length
+}
+
+/// No report has more bytes, and a space of so many bytes is never refused by 16.
+///
+/// ```
+/// let mut space = vec![0; wiltoresh::longest()];
+/// assert_eq!(wiltoresh::report_into(b"P,1,5\n", &mut space).number, 0);
+/// ```
+pub fn longest() -> usize {
+    // SAFETY: the function takes nothing and reads no memory of the caller.
+    unsafe { ffi::wiltoresh_longest() }
+}
