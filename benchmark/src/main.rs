@@ -2,11 +2,11 @@
 
 use benchmark::cases::{Case, cases, growth};
 use benchmark::stack::depth;
-use benchmark::timing::time;
+use benchmark::timing::{ROUNDS, time};
 use benchmark::{plain, proved};
 
 fn main() {
-    println!("Time of a report, both implementations in turn, medians of 31 rounds.");
+    println!("Time of a report, both implementations in turn, medians of {ROUNDS} rounds.");
     println!();
     table(&cases());
     println!();
@@ -37,7 +37,7 @@ fn table(cases: &[Case]) {
             times.plain,
             times.proved / bytes as f64,
             times.plain / bytes as f64,
-            times.proved / times.plain
+            times.ratio
         );
     }
 }

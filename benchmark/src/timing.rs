@@ -6,15 +6,18 @@ use std::time::{Duration, Instant};
 use crate::cases::Case;
 use crate::{Implementation, SPACE, plain, proved};
 
-const ROUNDS: usize = 31;
+pub const ROUNDS: usize = 101;
 
-/// The least that a round of one implementation takes; 31 of them are 0.31 s.
-const ROUND: Duration = Duration::from_millis(10);
+/// The least that a round of one implementation takes; 101 of them are 0.2 s.
+/// It is short, so that whatever else the machine does slows both alike.
+const ROUND: Duration = Duration::from_millis(2);
 
-/// Nanoseconds that a sheet takes, by the median of all rounds.
+/// Nanoseconds that a sheet takes, by the median of all rounds, and the median
+/// of each round's ratio of the two.
 pub struct Times {
     pub proved: f64,
     pub plain: f64,
+    pub ratio: f64,
 }
 
 /// Times both implementations, which go first by turns.
@@ -30,8 +33,14 @@ pub fn time(case: &Case) -> Times {
             rounds[which].push(took.as_nanos() as f64 / repeats[which] as f64);
         }
     }
+    let pairs = rounds[0].iter().zip(&rounds[1]);
+    let ratio = median(pairs.map(|(proved, plain)| proved / plain).collect());
     let [proved, plain] = rounds.map(median);
-    Times { proved, plain }
+    Times {
+        proved,
+        plain,
+        ratio,
+    }
 }
 
 /// Panics unless both answer as the case says, with the same space.
