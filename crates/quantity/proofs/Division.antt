@@ -1,12 +1,12 @@
 -- Long division by the bits of the pool, on plain numbers: q and r are quotient and remainder, w is the whole, p the part,
 -- b a bit. Assumes nothing.
-use mathlib.Core.Path.{_≡_, sym, ap, _∙_}
+use mathlib.Core.Path.{_≡_, sym, ap, subst, _∙_}
 use Prim.Native.Nat.{ℕ, _+_, _-_, _*_, _/_, _%_, _^_, _≤_, _<_}
-use native.Mathlib.Nat.{le-trans, lt-of-le-of-lt, lt-of-mul-lt-mul-right, mul-lt-mul-of-pos-right, mul-le-mul-left, mul-le-mul-right, mul-comm, add-mul, mul-right-comm, div-eq-of-lt-le, div-eq-of-lt, div-one, div-mul-le-self, le-div-iff-mul-le, div-le-of-le-mul}
+use native.Mathlib.Nat.{le-trans, le-of-lt, le-of-eq, lt-of-lt-of-le, div-add-mod', lt-of-le-of-lt, lt-of-mul-lt-mul-right, mul-lt-mul-of-pos-right, mul-le-mul-left, mul-le-mul-right, mul-comm, add-mul, mul-right-comm, div-eq-of-lt-le, div-eq-of-lt, div-one, div-mul-le-self, le-div-iff-mul-le, div-le-of-le-mul}
 use native.Mathlib.Omega.{arith}
 use lib.Bits.{bitAnd, and-mask}
-use lib.Count.{leadingZeros, leading-length}
-use lib.Pow.{shr-shr, shr-le}
+use lib.Count.{leadingZeros, leading-le, leading-length}
+use lib.Pow.{pow-pos, pow-mono, pow-add, shr-shr, shr-le, shr-lt}
 use Rattle.quantity.specs.Ranges.{PartRange}
 
 -- ---- the remainder brought below the whole
@@ -88,14 +88,41 @@ room P j h range =
     lt-of-le-of-lt (mul-le-mul-left (P / 2 ^ j) (range .within))
     (mul-lt-mul-of-pos-right (lt-of-le-of-lt (shr-le P j) h) (range .positive))
 
--- no bit of P stands from 64 less its leading zeros up
-pub first : (P p w : ℕ) → P < 2 ^ 64 → 0 * w + 0 ≡ P / 2 ^ (64 - leadingZeros 64 P) * p
-first P p w h =
-    let l = leading-length 64 P h in
-    let e : 64 - leadingZeros 64 P ≡ l .0 = omega (arith, l .1) in
-    let z : P / 2 ^ (64 - leadingZeros 64 P) ≡ 0 = ap (λ (n : ℕ). P / 2 ^ n) e ∙ div-eq-of-lt (l .2) in
-    let m : P / 2 ^ (64 - leadingZeros 64 P) * p ≡ 0 * p = ap (λ (n : ℕ). n * p) z in
-    omega arith
+-- ---- the highest bits of P at once: their product with C fits
+product-fits : (x C m : ℕ) → m ≤ 64 → x < 2 ^ (64 - m) → C < 2 ^ m → x * C < 2 ^ 64
+product-fits x C m h p q =
+    let whole : 64 - m + m ≡ 64 = omega arith in
+    let e : 2 ^ (64 - m) * 2 ^ m ≡ 2 ^ 64 = sym (pow-add 2 (64 - m) m) ∙ ap (λ (n : ℕ). 2 ^ n) whole in
+    lt-of-le-of-lt (mul-le-mul-left x (le-of-lt q)) (lt-of-lt-of-le (mul-lt-mul-of-pos-right p (pow-pos m)) (le-of-eq e))
+
+module _ (P C : ℕ) (pool-fits : P < 2 ^ 64) (part-fits : C < 2 ^ 64) where
+  pub zeros-few : leadingZeros 64 P + leadingZeros 64 C ≤ 128
+  zeros-few = omega (arith, leading-le 64 P, leading-le 64 C)
+
+  pub highest-one : P / 2 ^ 63 * C < 2 ^ 64
+  highest-one =
+      let one : P / 2 ^ 63 < 2 = shr-lt 1 63 pool-fits in
+      omega (arith, mul-le-mul-right C (let h : P / 2 ^ 63 ≤ 1 = omega arith in h))
+
+  pub highest-all : 64 ≤ leadingZeros 64 P + leadingZeros 64 C → P / 2 ^ 0 * C < 2 ^ 64
+  highest-all h =
+      let p = leading-length 64 P pool-fits in
+      let c = leading-length 64 C part-fits in
+      product-fits (P / 2 ^ 0) C (c .0) (omega (arith, c .1))
+      (lt-of-le-of-lt (shr-le P 0) (lt-of-lt-of-le (p .2) (pow-mono (let e : p .0 ≤ 64 - c .0 = omega (arith, p .1, c .1) in e))))
+      (c .2)
+
+  pub highest-some : leadingZeros 64 P + leadingZeros 64 C < 64 → P / 2 ^ (64 - (leadingZeros 64 P + leadingZeros 64 C)) * C < 2 ^ 64
+  highest-some h =
+      let p = leading-length 64 P pool-fits in
+      let c = leading-length 64 C part-fits in
+      let i : ℕ = 64 - (leadingZeros 64 P + leadingZeros 64 C) in
+      let e : p .0 ≡ 64 - c .0 + i = omega (arith, p .1, c .1) in
+      product-fits (P / 2 ^ i) C (c .0) (omega (arith, c .1)) (shr-lt (64 - c .0) i (subst (λ (n : ℕ). P < 2 ^ n) e (p .2))) (c .2)
+
+-- quotient and remainder make up the dividend
+pub divided : (n w : ℕ) → n / w * w + n % w ≡ n
+divided n w = div-add-mod' n w
 
 -- all bits of P stand from 0 up
 whole : (P p : ℕ) {i : ℕ} → i ≡ 0 → P / 2 ^ i * p ≡ P * p

@@ -51,17 +51,33 @@ fn with_bit(d: Division, bit: u64, part: u64, whole: u64) -> Division
     )
 }
 
-// ⌊P × C/A⌋, "P being walked from its highest one bit down".
+// How many of the lowest bits of P are left for the walk: those above them, times the part, stay below 2^64.
+fn bits_left(pool: u64, part: u64) -> u32
+    ensures { λ r. ⌜ (r ≤ 63) × (pool / 2 ^ r * part < 2 ^ 64) ⌝ }
+{
+    let zeros = u64::leading_zeros(pool) + u64::leading_zeros(part);
+    if zeros == 0 {
+        return 63;
+    }
+    if 64 <= zeros {
+        return 0;
+    }
+    64 - zeros
+}
+
+// ⌊P × C/A⌋, "P being walked from its highest one bit down": the highest bits are taken in one division as long as their product with C fits,
+// the others bit by bit.
 pub fn share(pool: Grams, part: Kilos, whole: Kilos) -> Grams
     requires { ⌜ PartRange (part .0) (whole .0) ⌝ }
     ensures { λ r. ⌜ r .0 ≡ pool .0 * part .0 / whole .0 ⌝ }
     ensures bounded { λ r. ⌜ r .0 ≤ pool .0 ⌝ }
 {
+    let mut i = bits_left(pool.0, part.0);
+    let highest = (pool.0 >> i) * part.0;
     let mut d = Division {
-        quotient: 0,
-        remainder: 0,
+        quotient: highest / whole.0,
+        remainder: highest % whole.0,
     };
-    let mut i = 64 - u64::leading_zeros(pool.0);
     while 0 < i {
         i -= 1;
         d = with_bit(d, (pool.0 >> i) & 1, part.0, whole.0);
