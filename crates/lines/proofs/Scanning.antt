@@ -1,10 +1,11 @@
 -- One pass over a field: what is known at each byte, and what a field says by its first byte and its length. Assumes nothing.
 use mathlib.Core.Path.{_≡_, refl, sym, ap, _∙_}
 use mathlib.Core.Bool.{Bool, true, false, cond, _&&_}
+use mathlib.Core.Logic.{⊎-elim}
 use mathlib.Core.List.{List, [], _∷_}
-use Prim.Native.Nat.{ℕ, suc, _+_, _-_, _*_, min, _≤_, _<_}
-use native.Mathlib.Nat.{le-refl, le-trans, lt-of-not-le}
-use native.Mathlib.Decide.{decLe}
+use Prim.Native.Nat.{ℕ, suc, _+_, _-_, _*_, _^_, min, _≤_, _<_}
+use native.Mathlib.Nat.{le-refl, le-trans, lt-of-not-le, pow-suc, pow-le-pow-right}
+use native.Mathlib.Decide.{decLe, ℕ-discrete}
 use native.Mathlib.Numerals.{add-one}
 use native.Mathlib.Omega.{arith}
 use borrow.Author.Tests.{eq-eqb, ne-eqb, leb-true}
@@ -12,11 +13,11 @@ use lib.Dec.{leb}
 use lib.ListN.{length, take, drop, getD, length-take, length-drop}
 use lib.Seq.{drop-cons, drop-length, getD-take, getD-drop}
 use Rattle.decimal.specs.Number.{isDigit, allDigits, isNumber, valueFrom, value}
-use Rattle.decimal.proofs.Bools.{and-both}
+use Rattle.decimal.proofs.Bools.{and-both, never}
 use Rattle.lines.specs.Lines.{LF, COMMA}
 use Rattle.lines.specs.Records.{Field, number, dash, other, fieldOf}
 use Rattle.lines.specs.Words.{CAP}
-use Rattle.lines.specs.Scan.{fieldLength, fieldAt, saidOf, Capped, digitsSaid, digitsFrom, ScannedAt, FieldReadAt, FieldBounds}
+use Rattle.lines.specs.Scan.{SHORT, fieldLength, fieldAt, saidOf, Capped, digitsSaid, digitsFrom, Scanning, NumberAt, ScannedAt, FieldReadAt, FieldBounds}
 use Rattle.lines.specs.declared.Said.{Said}
 use Rattle.lines.specs.declared.Said.the-variants.{Number, Dash, Other}
 use Rattle.lines.specs.declared.Scanned.{Scanned}
@@ -79,15 +80,8 @@ digits-none false n h = refl
 abbrev pub stopped : (value : ℕ) → (all : Bool) → (end : ℕ) → Scanned
 stopped value all end = record { value = value; all = all; end = end }
 
--- what is known once the bytes from start to end are looked at
-pub record Scanning (s : List ℕ) (start value : ℕ) (all : Bool) (end : ℕ) : Type 0 where
-  pub inside : end ≤ length s
-  pub capped : value ≤ CAP
-  pub ends : end + fieldLength (drop end s) ≡ start + fieldLength (drop start s)
-  pub said : digitsFrom all value (fieldAt s end) ≡ digitsFrom true 0 (fieldAt s start)
-
 pub none-scanned : (s : List ℕ) (start : ℕ) → start ≤ length s → Scanning s start 0 true start
-none-scanned s start h = record { inside = h; capped = omega arith; ends = refl; said = refl }
+none-scanned s start h = record { least = le-refl start; inside = h; capped = omega arith; ends = refl; said = refl }
 
 module _ (s : List ℕ) (start value : ℕ) (all : Bool) (end : ℕ) (k : Scanning s start value all end) where
   -- the field ends where no byte of it is left
@@ -132,6 +126,7 @@ module _ (s : List ℕ) (start value : ℕ) (all : Bool) (end : ℕ) (k : Scanni
           → Scanning s start n a (end + 1)
       further n a c e =
           record {
+            least = omega (arith, k .least);
             inside = omega arith;
             capped = c;
             ends = omega (arith, longer, k .ends);
@@ -247,3 +242,45 @@ module _ (s : List ℕ) (start : ℕ) (f : Scanned) (k : ScannedAt s start f) wh
 
     pub done-many : (getD s start 0 ≡ 48 → ⊥) → (said : Said) → said ≡ digitsSaid (f .all) (f .value) → FieldDone s start said (f .end)
     done-many n said e = done said (e ∙ k .said ∙ sym (said-many (fieldAt s start) several (λ q. n (sym (first p) ∙ q))))
+
+-- ---- a short number
+
+abbrev isNumberSaid : Said → Bool
+isNumberSaid (Number n) = true
+isNumberSaid Dash = false
+isNumberSaid Other = false
+
+-- a field of digits does not begin with `-`
+no-dash : (f : List ℕ) (n : ℕ) → Number n ≡ digits f → getD f 0 0 ≡ 45 → ⊥
+unfolding digitsFrom allDigits
+no-dash [] n e g = absurd (omega arith)
+no-dash (b ∷ f) n e g = never (sym (ap isNumberSaid (rw g at e)))
+
+module _ (s : List ℕ) (start value end : ℕ) (k : Scanning s start value true end) (n : NumberAt s start end) where
+  abbrev f : Scanned
+  f = stopped value true end
+
+  number-scanned : ScannedAt s start f
+  number-scanned =
+      ⊎-elim (scanned-comma s start value true end k (n .inside)) (scanned-LF s start value true end k (n .inside)) (n .stops)
+
+  pub number-done : FieldDone s start (Number value) end
+  number-done =
+      let sc = number-scanned in
+      elim (ℕ-discrete end (start + 1)) [
+        | yes e ↦
+            done-one s start f sc e
+            (λ (d : getD s start 0 ≡ 45). no-dash (fieldAt s start) value (sc .said) (start-is s start f sc e ∙ d)) (Number value) refl
+        | no q ↦ done-many s start f sc (n .some) q (λ (z : getD s start 0 ≡ 48). q (n .leading z)) (Number value) refl
+      ]
+
+-- ---- a value that needs no cap
+
+-- k digits make less than 10 ^ k
+pub digits-below : (value k d : ℕ) → value + 1 ≤ 10 ^ k → d ≤ 9 → value * 10 + d + 1 ≤ 10 ^ (k + 1)
+digits-below value k d h g =
+    let e : 10 ^ (k + 1) ≡ 10 ^ k * 10 = rw add-one (pow-suc 10 k) in
+    omega arith
+
+pub short-below : (k : ℕ) → k ≤ SHORT → 10 ^ k ≤ 1000000000000
+short-below k h = pow-le-pow-right (let p : 1 ≤ 10 = omega arith in p) h

@@ -1,8 +1,9 @@
 -- A field, a line and a line's place as the code finds them. Laws join them to Records and Lines; nothing here adds to document 01's meaning.
 use mathlib.Core.Path.{_≡_}
 use mathlib.Core.Bool.{Bool, true, false, cond, _&&_}
+use mathlib.Core.Logic.{_⊎_}
 use mathlib.Core.List.{List, [], _∷_}
-use Prim.Native.Nat.{ℕ, suc, _+_, min, _≤_}
+use Prim.Native.Nat.{ℕ, suc, _+_, min, _≤_, _<_}
 use lib.Dec.{eqb, ltb}
 use lib.ListN.{length, take, drop, getD, set}
 use Rattle.decimal.specs.Number.{allDigits, valueFrom}
@@ -51,6 +52,25 @@ digitsSaid all value = cond all (Number value) Other
 -- bytes as digits, after digits of the value n
 unfoldable pub digitsFrom : (all : Bool) → (n : ℕ) → List ℕ → Said
 digitsFrom all n bytes = digitsSaid (all && allDigits bytes) (min (valueFrom n bytes) CAP)
+
+-- as many digits stay below CAP
+abbrev pub SHORT : ℕ
+SHORT = 12
+
+-- what is known once the bytes from start to end are looked at: their value as digits, and whether all are
+pub record Scanning (sheet : List ℕ) (start value : ℕ) (all : Bool) (end : ℕ) : Type 0 where
+  pub least : start ≤ end
+  pub inside : end ≤ length sheet
+  pub capped : value ≤ CAP
+  pub ends : end + fieldLength (drop end sheet) ≡ start + fieldLength (drop start sheet)
+  pub said : digitsFrom all value (fieldAt sheet end) ≡ digitsFrom true 0 (fieldAt sheet start)
+
+-- bytes from start to end, if digits, are a number and the whole field
+pub record NumberAt (sheet : List ℕ) (start end : ℕ) : Type 0 where
+  pub some : end ≡ start → ⊥
+  pub inside : end < length sheet
+  pub stops : (getD sheet end 0 ≡ COMMA) ⊎ (getD sheet end 0 ≡ LF)
+  pub leading : (getD sheet start 0 ≡ 48) → end ≡ start + 1
 
 -- the field that starts at a place of the sheet, its bytes taken for digits
 pub record ScannedAt (sheet : List ℕ) (start : ℕ) (f : Scanned) : Type 0 where

@@ -1,12 +1,13 @@
 // Document 01, "The sheet": bytes to lines, fields and records. The definitions are in specs/.
 ghost use mathlib.Core.Path.{_≡_};
+ghost use mathlib.Core.Bool.{true};
 ghost use Prim.Native.Nat.{_+_, _-_, min, _≤_};
 ghost use lib.ListN.{length, take, drop};
 ghost use Rattle.decimal.specs.Number.{isDigit};
 ghost use Rattle.lines.specs.Lines.{linesOf, lineBytes, lineStart};
 ghost use Rattle.lines.specs.Records.{kindOf, kindIn};
 ghost use Rattle.lines.specs.Words.{CAP, lineLength, ReadAt};
-ghost use Rattle.lines.specs.Scan.{wordOf, digitsSaid, ScannedAt, FieldReadAt, FieldBounds, commaAt, stored, PlaceOf};
+ghost use Rattle.lines.specs.Scan.{wordOf, SHORT, digitsSaid, Scanning, NumberAt, ScannedAt, FieldReadAt, FieldBounds, commaAt, stored, PlaceOf};
 
 // The seven kinds of lines, and a line whose first field is none of their letters.
 pub enum Kind {
@@ -60,6 +61,15 @@ struct Scanned {
     all: bool,
     end: usize,
 }
+
+// Digits that a field starts with: their value, and the place after them.
+struct Digits {
+    value: u64,
+    end: usize,
+}
+
+// As many digits stay below CAP, whatever they are.
+const SHORT: usize = 12;
 
 // Where a line stands in the sheet, without its LF.
 pub struct Place {
@@ -115,6 +125,60 @@ fn scan_field(s: &[u8], start: usize) -> Scanned
     Scanned { value, all, end }
 }
 
+// Where the digits that a field starts with are no longer looked at: after SHORT bytes, or where the sheet ends.
+fn digits_limit(length: usize, start: usize) -> usize
+    requires { ⌜ start ≤ length ⌝ }
+    ensures { λ r. ⌜ r ≡ min length (start + SHORT) ⌝ }
+{
+    if length - start < SHORT {
+        return length;
+    }
+    start + SHORT
+}
+
+// The digits that a field starts with, at most SHORT of them, whose value needs no cap.
+fn leading_digits(s: &[u8], start: usize) -> Digits
+    requires { ⌜ start ≤ length (now s) ⌝ }
+    ensures { λ r. ⌜ Scanning (now (s .entry)) start (r .value) true (r .end) ⌝ }
+{
+    let limit = digits_limit(s.len(), start);
+    let mut value: u64 = 0;
+    let mut end = start;
+    while end < limit {
+        let byte = s[end];
+        if is_digit(byte) {
+            value = value * 10 + wide(byte - 48);
+        } else {
+            return Digits { value, end };
+        }
+        end += 1;
+    }
+    Digits { value, end }
+}
+
+// Whether the digits from start to end are a number and the whole field.
+fn is_number(s: &[u8], start: usize, end: usize) -> bool
+    requires { ⌜ (start ≤ end) × (end ≤ length (now s)) ⌝ }
+    ensures { λ r. ⌜ (r ≡ true → NumberAt (now (s .entry)) start end) ⌝ }
+{
+    if end == start {
+        return false;
+    }
+    if end == s.len() {
+        return false;
+    }
+    let stop = s[end];
+    if stop != b',' {
+        if stop != b'\n' {
+            return false;
+        }
+    }
+    if s[start] == b'0' {
+        return end == start + 1;
+    }
+    true
+}
+
 // A number, if all bytes are digits.
 fn digits_said(f: Scanned) -> Said
     ensures { λ r. ⌜ r ≡ digitsSaid (f .all) (f .value) ⌝ }
@@ -126,8 +190,8 @@ fn digits_said(f: Scanned) -> Said
     }
 }
 
-// The field that starts here. A number is one or more decimal digits, however many, with no leading zero except `0` itself.
-pub fn read_field(s: &[u8], start: usize) -> FieldRead
+// The field that starts here, whatever it says. A number is one or more decimal digits, however many, with no leading zero except `0` itself.
+fn read_any(s: &[u8], start: usize) -> FieldRead
     requires { ⌜ start ≤ length (now s) ⌝ }
     ensures { λ r. ⌜ FieldReadAt (now (s .entry)) start r ⌝ }
     ensures bounded { λ r. ⌜ FieldBounds (now (s .entry)) start r ⌝ }
@@ -163,6 +227,23 @@ pub fn read_field(s: &[u8], start: usize) -> FieldRead
         said: digits_said(f),
         end,
     }
+}
+
+// The field that starts here: a short number at once, any other by all its bytes.
+pub fn read_field(s: &[u8], start: usize) -> FieldRead
+    requires { ⌜ start ≤ length (now s) ⌝ }
+    ensures { λ r. ⌜ FieldReadAt (now (s .entry)) start r ⌝ }
+    ensures bounded { λ r. ⌜ FieldBounds (now (s .entry)) start r ⌝ }
+{
+    let digits = leading_digits(s, start);
+    let end = digits.end;
+    if is_number(s, start, end) {
+        return FieldRead {
+            said: Said::Number(digits.value),
+            end,
+        };
+    }
+    read_any(s, start)
 }
 
 // ---- a line: its kind's letter, then its fields
@@ -231,7 +312,7 @@ pub fn read_line(s: &[u8], start: usize) -> LineRead
     ensures { λ r. ⌜ ReadAt (now (s .entry)) start r ⌝ }
     ensures bounded { λ r. ⌜ (start ≤ r .end) × (r .end ≤ length (now (s .entry))) ⌝ }
 {
-    let first = read_field(s, start);
+    let first = scan_field(s, start);
     let mut end = first.end;
     let kind = kind_in(s, start, end);
     let mut words = [0u64; WORDS];

@@ -1,55 +1,29 @@
 use borrow.Author.Needs.{needs}
-use Rattle.lines.proofs.Scanning.{done-none, done-dash, done-one, done-zero, done-many}
+use Rattle.lines.proofs.Scanning.{number-done}
 use Rattle.lines.proofs.read_field.Statement.{statement}
 use Rattle.lines.proofs.read_field.Tie as tie
+use Rattle.lines.proofs.read_field.Reads as reads
+use Rattle.lines.proofs.read_field.Lts as lts
+use Rattle.lines.proofs.is_number.Reads as is-number-reads
+use Rattle.lines.proofs.leading_digits.Reads as leading-digits-reads
+use Rattle.lines.proofs.read_any.Reads as read-any-reads
 
-scan-field-requires : tie.Need-scan-field-requires
-scan-field-requires c κs = search needs
+leading-digits-requires : tie.Need-leading-digits-requires
+leading-digits-requires c κs = search needs
+
+is-number-requires : tie.Need-is-number-requires
+is-number-requires c κs = search needs
 
 returns : tie.Need-returns
-returns c = done-none _ _ _ (c .before .scan-field .ensures) (c .if1 .taken)
+returns c = number-done _ _ _ _ (c .before .before .leading-digits .ensures) (c .before .is-number .ensures (c .if1 .taken))
 
-shared-slice-read-first : tie.Need-shared-slice-read-first
-shared-slice-read-first c = search needs
-
-add-if2 : tie.Need-add-if2
-add-if2 c = search needs
+read-any-requires : tie.Need-read-any-requires
+read-any-requires c κs = search needs
 
 returns-2 : tie.Need-returns-2
-returns-2 c = done-dash _ _ _ (c .before .before .before .before .scan-field .ensures) (c .before .if2 .taken) (c .if3 .taken)
-
-digits-said-requires : tie.Need-digits-said-requires
-digits-said-requires c κs = search needs
-
-returns-3 : tie.Need-returns-3
-returns-3 c =
-    let k = c .before .before in
-    done-one _ _ _ (k .before .before .before .scan-field .ensures) (k .if2 .taken) (c .before .if3 .left) _ (c .digits-said .ensures)
-
-returns-4 : tie.Need-returns-4
-returns-4 c =
-    let k = c .before in
-    done-zero _ _ _ (k .before .before .before .scan-field .ensures) (k .before .before .if1 .left) (k .if2 .left) (c .if4 .taken)
-
-digits-said-requires-2 : tie.Need-digits-said-requires-2
-digits-said-requires-2 c κs = search needs
-
-returns-5 : tie.Need-returns-5
-returns-5 c =
-    let k = c .before .before in
-    done-many _ _ _ (k .before .before .before .scan-field .ensures) (k .before .before .if1 .left) (k .if2 .left) (c .before .if4 .left) _ (c .digits-said2 .ensures)
+returns-2 c = search needs
 
 pub read-field-spec : {M : Type 1} → statement M
 read-field-spec =
     tie.close
-    (tie.spec
-    scan-field-requires
-    returns
-    shared-slice-read-first
-    add-if2
-    returns-2
-    digits-said-requires
-    returns-3
-    returns-4
-    digits-said-requires-2
-    returns-5)
+    (tie.spec leading-digits-requires is-number-requires returns read-any-requires returns-2)

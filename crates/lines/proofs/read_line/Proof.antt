@@ -15,8 +15,8 @@ Inv-loop s start end₀ kind words₀ count₀ end words count = (start ≤ end)
 abbrev μ-loop : tie.MeasureT-loop
 μ-loop s start end₀ kind words₀ count₀ end words count = length s - end
 
-read-field-requires : tie.Need-read-field-requires Inv-loop μ-loop
-read-field-requires c κs = search needs
+scan-field-requires : tie.Need-scan-field-requires Inv-loop μ-loop
+scan-field-requires c κs = search needs
 
 kind-in-requires : tie.Need-kind-in-requires Inv-loop μ-loop
 kind-in-requires c κs = search needs
@@ -37,8 +37,8 @@ inside c = comma-in (c .before .before .before .before .before .before .args .s 
 add-read-field : tie.Need-add-read-field Inv-loop μ-loop
 add-read-field c = let h = inside c in omega arith
 
-read-field-requires-2 : tie.Need-read-field-requires-2 Inv-loop μ-loop
-read-field-requires-2 c κs = let h = inside c in omega arith
+read-field-requires : tie.Need-read-field-requires Inv-loop μ-loop
+read-field-requires c κs = let h = inside c in omega arith
 
 word-of-requires : tie.Need-word-of-requires Inv-loop μ-loop
 word-of-requires c κs = search needs
@@ -60,14 +60,14 @@ loop-again c =
       omega arith,
       omega arith,
       rw (c .store .ensures, c .before .word-of .ensures)
-          (one-read _ _ _ _ _ (f .before .before .before .loop .inv .3) _ (comma (f .before)) (f .read-field2 .ensures .0)),
+          (one-read _ _ _ _ _ (f .before .before .before .loop .inv .3) _ (comma (f .before)) (f .read-field .ensures .0)),
     )
 
 returns : tie.Need-returns Inv-loop μ-loop
 returns c =
     let l = c .before .before in
     let f = l .before .before in (
-      all-read _ _ _ _ _ (l .loop .inv .3) _ _ (f .before .before .pre) (f .read-field .ensures .0 .end) (l .before .kind-in .ensures) (sym (c .before .comma-at .ensures) ∙ c .if1 .left),
+      all-read _ _ _ _ _ (l .loop .inv .3) _ _ (f .before .before .pre) (f .scan-field .ensures .end) (l .before .kind-in .ensures) (sym (c .before .comma-at .ensures) ∙ c .if1 .left),
       search needs,
     )
 
@@ -77,12 +77,12 @@ read-line-spec =
     (tie.spec
     Inv-loop
     μ-loop
-    read-field-requires
+    scan-field-requires
     kind-in-requires
     loop-holds
     comma-at-requires
     add-read-field
-    read-field-requires-2
+    read-field-requires
     word-of-requires
     store-requires
     add-count

@@ -3,7 +3,8 @@ use mathlib.Core.Logic.{⊎-elim}
 use Prim.Native.Nat.{_-_}
 use native.Mathlib.Omega.{arith}
 use lib.ListN.{length}
-use Rattle.lines.proofs.Scanning.{digit-range, Scanning, none-scanned, scanned-end, scanned-LF, scanned-comma, other-scanned, digit-scanned}
+use Rattle.lines.specs.Scan.{Scanning}
+use Rattle.lines.proofs.Scanning.{digit-range, none-scanned, scanned-end, scanned-LF, scanned-comma, other-scanned, digit-scanned}
 use Rattle.lines.proofs.scan_field.Statement.{statement}
 use Rattle.lines.proofs.scan_field.Tie as tie
 
