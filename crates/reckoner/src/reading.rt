@@ -7,10 +7,10 @@ use super::judging::line_refusal;
 use super::noting::with_line;
 use goods::PAIRS;
 use goods::SIZE;
+use judge::refusals::Refusal;
+use judge::refusals::refusal_number;
 use ledger::empty;
 use lines::read_line;
-use sheet::refusals::Refusal;
-use sheet::refusals::refusal_number;
 
 // The first refusal by rows 2 to 13 and its line, 0 where there is none, and what the lines say.
 pub struct Read {

@@ -3,8 +3,4 @@ pub mod Cases
 pub mod First
 pub mod Passed
 pub mod OneSheet
-pub mod Rows
-pub mod FieldWords
-pub mod Shaped
 pub mod Held
-pub mod LineNumber

@@ -16,7 +16,7 @@ use Rattle.lines.proofs.read_line.Reads as read-line-reads
 use Rattle.reckoner.proofs.judging.line_refusal.Reads as line-refusal-reads
 use Rattle.reckoner.proofs.noting.with_line.Reads as with-line-reads
 use Rattle.reckoner.proofs.reading.nothing_above.Reads as nothing-above-reads
-use Rattle.sheet.proofs.refusals.refusal_number.Reads as refusal-number-reads
+use Rattle.judge.proofs.refusals.refusal_number.Reads as refusal-number-reads
 
 abbrev Inv-loop : tie.InvT-loop
 Inv-loop s kilos₀ works₀ at₀ kilos works at = Reading s at works kilos
