@@ -20,7 +20,7 @@ use Rattle.sheet.specs.Kinds.{Rule, _to_, exactly, methodRules, processNumber, 
 use Rattle.sheet.specs.Refusals.{notNumber, outOfRange}
 use Rattle.sheet.specs.Verdict.{Check, check, refused, firstOf, numberOf, fieldChecks}
 use Rattle.judge.specs.Code.{orElse, wordNumber, wordsNumber}
-use Rattle.judge.proofs.Rows.{by-method}
+use Rattle.sheet.proofs.EveryKind.{by-method}
 
 -- ---- the words of the first eight fields
 

@@ -22,7 +22,8 @@ use Rattle.sheet.specs.Refusals.{anyOf, sumOf, from, to, outputIn, takenIn, has
 use Rattle.sheet.specs.Verdict.{Check, check, accepted, refused, firstOf, numberOf, fieldChecks, lineChecks}
 use Rattle.judge.specs.Code.{orElse, wordsNumber, fieldsNumber, shapeNumber, notNext, missing, noStandard, second, exceeded, orderNumber, lineNumber}
 use Rattle.sheet.proofs.First.{All}
-use Rattle.judge.proofs.Rows.{few-rules, else-first}
+use Rattle.sheet.proofs.EveryKind.{few-rules}
+use Rattle.judge.proofs.Rows.{else-first}
 use Rattle.judge.proofs.FieldWords.{word-at, allCapped, early, tidy-rules, rules-same, number-cons, fields-number}
 use Rattle.judge.proofs.Shaped.{early-word, dash-word}
 use Rattle.sheet.proofs.Held.{Held, GoodAsked}

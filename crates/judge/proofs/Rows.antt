@@ -1,7 +1,7 @@
--- The rules of a kind as the code holds them, eight places to a row, say of each field what the table of kinds says. Assumes nothing.
+-- What the code gives a line by the row of its kind is what the rules of its kind give: rows 4 to 7. Assumes nothing.
 use mathlib.Core.Path.{_≡_, refl, sym, ap, _∙_}
-use mathlib.Core.Bool.{Bool, true, false, cond}
-use mathlib.Core.List.{List, [], _∷_, map}
+use mathlib.Core.Bool.{false}
+use mathlib.Core.List.{List}
 use Prim.Native.Nat.{ℕ, zero, suc, _+_, _-_, _≤_, _<_}
 use native.Mathlib.Numerals.{add-one}
 use native.Mathlib.Omega.{arith}
@@ -9,76 +9,16 @@ use borrow.Author.Tests.{eq-eqb, ne-eqb}
 use lib.Dec.{eqb}
 use lib.ListN.{length, getD, drop, drop-of-length-le}
 use lib.Seq.{drop-cons}
-use Rattle.lines.specs.Records.{Field, number, dash, other, letter}
+use Rattle.lines.specs.Records.{number, letter}
 use Rattle.lines.specs.declared.Kind.{Kind}
-use Rattle.lines.specs.declared.Kind.the-variants.{Process, SourceStream, Heat, WasteGas, Power, BoughtPrecursor, OwnGood, Unknown}
+use Rattle.lines.specs.declared.Kind.the-variants.{Unknown}
 use Rattle.quantity.specs.Limits.{Limits}
-use Rattle.sheet.specs.Kinds.{Rule, exactly, burning, processEmission, carbon, noMethod, methodRules, rules}
-use Rattle.judge.specs.Code.{eight, row, orElse, wordNumber, wordsNumber, wordRules, fieldsNumber}
-use Rattle.judge.specs.declared.rules.Rules.{Rules}
-
--- ---- eight places
-
-mapped-at : {A : Type 0} (nothing : A) (f : Rule → A) → f (exactly 0) ≡ nothing → (rs : List Rule) (k : ℕ)
-    → getD (map f rs) k nothing ≡ f (getD rs k (exactly 0))
-mapped-at nothing f z [] k = sym z
-mapped-at nothing f z (r ∷ rs) zero = refl
-mapped-at nothing f z (r ∷ rs) (suc k) = mapped-at nothing f z rs k
-
-pub eight-at : {A : Type 0} (nothing : A) (f : Rule → A) → f (exactly 0) ≡ nothing → (rs : List Rule) (k : ℕ) → k < 8
-    → getD (eight nothing f rs) k nothing ≡ f (getD rs k (exactly 0))
-eight-at nothing f z rs k h = go k h ∙ mapped-at nothing f z rs k
-  where
-    go : (k : ℕ) → k < 8 → getD (eight nothing f rs) k nothing ≡ getD (map f rs) k nothing
-    go zero h = refl
-    go (suc zero) h = refl
-    go (suc (suc zero)) h = refl
-    go (suc (suc (suc zero))) h = refl
-    go (suc (suc (suc (suc zero)))) h = refl
-    go (suc (suc (suc (suc (suc zero))))) h = refl
-    go (suc (suc (suc (suc (suc (suc zero)))))) h = refl
-    go (suc (suc (suc (suc (suc (suc (suc zero))))))) h = refl
-    go (suc (suc (suc (suc (suc (suc (suc (suc k)))))))) h = absurd (omega arith)
-
--- ---- what holds of the rules of every kind and method
-
-pub by-method : (P : List Rule → Type 0) → P burning → P processEmission → P carbon → P noMethod → (f : Field) → P (methodRules f)
-unfolding methodRules
-by-method P b p c n (number m) = go (eqb m 1) (eqb m 2) (eqb m 3) (eqb m 4)
-  where
-    go : (i j k l : Bool) → P (cond i burning (cond j processEmission (cond k carbon (cond l carbon noMethod))))
-    go true j k l = b
-    go false true k l = p
-    go false false true l = c
-    go false false false true = c
-    go false false false false = n
-by-method P b p c n dash = n
-by-method P b p c n other = n
-
--- no kind has more than eight fields after its first
-pub few-rules : (limits : Limits) (k : Kind) (f : Field) → length (rules limits k f) ≤ 8
-unfolding rules
-few-rules limits Process f = omega arith
-few-rules limits SourceStream f =
-    by-method (λ rs. suc (suc (length rs)) ≤ 8) (omega arith) (omega arith) (omega arith) (omega arith) f
-few-rules limits Heat f = omega arith
-few-rules limits WasteGas f = omega arith
-few-rules limits Power f = omega arith
-few-rules limits BoughtPrecursor f = omega arith
-few-rules limits OwnGood f = omega arith
-few-rules limits Unknown f = omega arith
-
--- only a line of no kind has none
-pub none-unknown : (limits : Limits) (k : Kind) (f : Field) → eqb (letter k) (letter Unknown) ≡ eqb (length (rules limits k f)) 0
-unfolding rules
-none-unknown limits Process f = refl
-none-unknown limits SourceStream f = sym (ne-eqb (suc (suc (length (methodRules f)))) 0 (λ e. omega arith))
-none-unknown limits Heat f = refl
-none-unknown limits WasteGas f = refl
-none-unknown limits Power f = refl
-none-unknown limits BoughtPrecursor f = refl
-none-unknown limits OwnGood f = refl
-none-unknown limits Unknown f = refl
+use Rattle.sheet.specs.Kinds.{Rule, exactly}
+use Rattle.sheet.proofs.EveryKind.{few-rules, none-unknown}
+use Rattle.rules.specs.Row.{row}
+use Rattle.rules.proofs.Row.{eight-at}
+use Rattle.judge.specs.Code.{orElse, wordNumber, wordsNumber, wordRules, fieldsNumber}
+use Rattle.rules.specs.declared.Rules.{Rules}
 
 -- ---- 6 and 7 by the row, as the loop goes: n fields from k on
 

@@ -19,7 +19,7 @@ use Rattle.quantity.specs.Limits.{Limits}
 use Rattle.sheet.specs.Kinds.{Rule, exactly, rules, rulesOf}
 use Rattle.sheet.specs.Refusals.{tooManyLines, saysDash}
 use Rattle.judge.specs.Code.{orElse, wordNumber, wordsNumber, wordRules, fieldsNumber, shapeNumber, InRange, FitsBy, Fitting}
-use Rattle.judge.proofs.Rows.{few-rules}
+use Rattle.sheet.proofs.EveryKind.{few-rules}
 use Rattle.judge.proofs.FieldWords.{word-at, word-past, capped, allCapped, early, tidy-rules, rules-same}
 
 else-zero : (a b : ℕ) → orElse a b ≡ 0 → (a ≡ 0) × (b ≡ 0)

@@ -3,7 +3,7 @@
 use mathlib.Core.Path.{_≡_}
 use mathlib.Core.Logic.{_⊎_}
 use mathlib.Core.Bool.{Bool, true, false, cond, _&&_, _||_, not}
-use mathlib.Core.List.{List, [], _∷_, map}
+use mathlib.Core.List.{List, [], _∷_}
 use Prim.Native.Nat.{ℕ, suc, _+_, _≤_}
 use lib.Dec.{eqb, ltb, leb}
 use lib.ListN.{length, getD}
@@ -16,7 +16,6 @@ use Rattle.sheet.specs.Kinds.{Rule, rules, namedFields}
 use Rattle.sheet.specs.Refusals.{tooManyLines, endsOf}
 use Rattle.judge.specs.declared.refusals.Refusal.{Refusal}
 use Rattle.judge.specs.declared.refusals.Refusal.the-variants.{Accepted, TooManyBytes, TooManyLines, LacksLF, UnknownKind, WrongFieldCount, NotNumber, OutOfRange, ProcessNotNext, MissingProcess, EndsNotAllowed, NoStandardValue, SecondOfPair, OutputExceeded, EmptySheet, FigureTooLarge, SpaceTooShort}
-use Rattle.judge.specs.declared.rules.Rules.{Rules}
 
 -- document 01's number of each refusal, 0 for an accepted sheet
 abbrev pub refusalNumber : Refusal → ℕ
@@ -37,21 +36,6 @@ refusalNumber OutputExceeded = 13
 refusalNumber EmptySheet = 14
 refusalNumber FigureTooLarge = 15
 refusalNumber SpaceTooShort = 16
-
--- ---- rules as the code holds them: eight places, 0 and false where there is no field
-
-abbrev pub eight : {A : Type 0} → (nothing : A) → (Rule → A) → List Rule → List A
-eight nothing f rs =
-    getD (map f rs) 0 nothing ∷ getD (map f rs) 1 nothing ∷ getD (map f rs) 2 nothing ∷ getD (map f rs) 3 nothing
-    ∷ getD (map f rs) 4 nothing ∷ getD (map f rs) 5 nothing ∷ getD (map f rs) 6 nothing ∷ getD (map f rs) 7 nothing ∷ []
-
-abbrev pub row : List Rule → Rules
-row rs = record {
-  count = length rs;
-  lowest = eight 0 (λ r. r .lowest) rs;
-  highest = eight 0 (λ r. r .highest) rs;
-  dash = eight false (λ r. r .dashAllowed) rs;
-}
 
 -- ---- the first of two numbers that is not 0
 

@@ -6,12 +6,12 @@ ghost use Rattle.quantity.specs.Limits.{limits};
 ghost use Rattle.judge.specs.Code.{refusalNumber, wordNumber, fieldsNumber, shapeNumber};
 use super::refusals::Refusal;
 use super::refusals::refusal_number;
-use super::rules::rules_of;
 use lines::DASH;
 use lines::Kind;
 use lines::LineRead;
 use lines::OTHER;
 use quantity::limits::LINES;
+use rules::rules_of;
 
 // Rows 6 and 7: a field's word by its rule.
 fn field_refusal(word: u64, lowest: u64, highest: u64, dash: bool) -> Refusal

@@ -1,5 +1,6 @@
 -- Laws that the crates above cite.
 pub mod Cases
+pub mod EveryKind
 pub mod First
 pub mod Passed
 pub mod OneSheet

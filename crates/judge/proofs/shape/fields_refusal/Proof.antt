@@ -1,7 +1,7 @@
 -- `fields_refusal` meets its contract. The loop's invariant: the fields that are left give the number that all of them give. Assumes nothing.
 use mathlib.Core.List.{List}
 use Rattle.judge.specs.Code.{refusalNumber, orElse, fieldsNumber}
-use Rattle.judge.specs.declared.rules.Rules.{Rules}
+use Rattle.rules.specs.declared.Rules.{Rules}
 use Rattle.quantity.specs.Limits.{limits}
 use borrow.Author.Needs.{needs}
 use Prim.Native.Nat.{ℕ, _+_, _-_, _≤_, _<_}

@@ -6,10 +6,10 @@ use Rattle.lines.specs.Records.{number}
 use Rattle.lines.specs.declared.Kind.the-variants.{SourceStream}
 use Rattle.quantity.specs.Limits.{limits}
 use Rattle.sheet.specs.Kinds.{methodRules, rules}
-use Rattle.judge.specs.Code.{row}
-use Rattle.judge.specs.declared.rules.Rules.{Rules}
-use Rattle.judge.proofs.rules.stream_rules.Statement.{statement}
-use Rattle.judge.proofs.rules.stream_rules.Tie as tie
+use Rattle.rules.specs.Row.{row}
+use Rattle.rules.specs.declared.Rules.{Rules}
+use Rattle.rules.proofs.stream_rules.Statement.{statement}
+use Rattle.rules.proofs.stream_rules.Tie as tie
 
 abbrev by-method : ℕ → Rules
 by-method m = row (rules limits SourceStream (number m))

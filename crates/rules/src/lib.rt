@@ -1,10 +1,9 @@
 // Document 01, "The sheet" and "Source streams": what the fields of each kind of line may hold.
 ghost use mathlib.Core.Path.{_≡_};
-ghost use Prim.Native.Nat.{_≤_};
 ghost use Rattle.lines.specs.Records.{number};
 ghost use Rattle.quantity.specs.Limits.{limits};
 ghost use Rattle.sheet.specs.Kinds.{rules};
-ghost use Rattle.judge.specs.Code.{row};
+ghost use Rattle.rules.specs.Row.{row};
 use lines::Kind;
 use quantity::limits::PROCESSES;
 

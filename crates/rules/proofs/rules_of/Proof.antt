@@ -4,10 +4,10 @@ use Rattle.lines.specs.Records.{number}
 use Rattle.lines.specs.declared.Kind.{Kind}
 use Rattle.quantity.specs.Limits.{limits}
 use Rattle.sheet.specs.Kinds.{rules}
-use Rattle.judge.specs.Code.{row}
+use Rattle.rules.specs.Row.{row}
 use borrow.Author.Needs.{needs}
-use Rattle.judge.proofs.rules.rules_of.Statement.{statement}
-use Rattle.judge.proofs.rules.rules_of.Tie as tie
+use Rattle.rules.proofs.rules_of.Statement.{statement}
+use Rattle.rules.proofs.rules_of.Tie as tie
 
 enum-told : tie.Need-enum-told
 enum-told c = search needs
