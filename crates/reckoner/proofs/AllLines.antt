@@ -18,11 +18,11 @@ use Rattle.ledger.specs.Ledger.{Small}
 use Rattle.quantity.specs.Limits.{limits}
 use Rattle.sheet.specs.Refusals.{sumOf}
 use Rattle.sheet.specs.Verdict.{Check, accepted, refused, firstOf, lineChecks, linesChecks}
-use Rattle.sheet.specs.Code.{lineNumber}
+use Rattle.judge.specs.Code.{lineNumber}
 use Rattle.sheet.proofs.First.{accepted-passes}
 use Rattle.sheet.proofs.Passed.{line-fine}
 use Rattle.sheet.proofs.Held.{GoodAsked}
-use Rattle.sheet.proofs.LineNumber.{given, line-accepted, line-refused, read-number}
+use Rattle.judge.proofs.LineNumber.{given, line-accepted, line-refused, read-number}
 use Rattle.entries.specs.Entries.{entry}
 use Rattle.entries.specs.Read.{recordRead, Shaped}
 use Rattle.reckoner.specs.Works.{worksAtStart, worksAfter, kilosAfter}

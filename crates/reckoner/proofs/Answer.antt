@@ -12,8 +12,8 @@ use Rattle.lines.specs.Lines.{linesOf}
 use Rattle.lines.specs.Records.{recordsOf}
 use Rattle.quantity.specs.Limits.{limits}
 use Rattle.sheet.specs.Verdict.{Check, check, Verdict, accepted, refused, firstOf, linesChecks, sheetChecks, numberOf, lineOf}
-use Rattle.sheet.specs.Code.{refusalNumber}
-use Rattle.sheet.specs.declared.refusals.Refusal.{Refusal}
+use Rattle.judge.specs.Code.{refusalNumber}
+use Rattle.judge.specs.declared.refusals.Refusal.{Refusal}
 use Rattle.sheet.proofs.First.{accepted-passes}
 use Rattle.sheet.proofs.Passed.{lines-fine}
 use Rattle.closing.specs.Closing.{Closed, anyLarge}

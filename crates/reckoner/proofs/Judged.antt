@@ -15,7 +15,7 @@ use Rattle.lines.specs.declared.Kind.the-variants.{Process, SourceStream, Heat,
 use Rattle.goods.specs.Settling.{SIZE}
 use Rattle.quantity.specs.Limits.{limits}
 use Rattle.sheet.specs.Kinds.{rules}
-use Rattle.sheet.specs.Code.{orElse, wordNumber, wordsNumber, wordRules, fieldsNumber, shapeNumber, orderNumber}
+use Rattle.judge.specs.Code.{orElse, wordNumber, wordsNumber, wordRules, fieldsNumber, shapeNumber, orderNumber}
 
 pub else-first : (a b : ℕ) → (a ≡ 0 → ⊥) → a ≡ orElse a b
 else-first a b h = rw (ne-eqb a 0 h)

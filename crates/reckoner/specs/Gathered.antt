@@ -11,7 +11,7 @@ use Rattle.goods.specs.Sums.{sumTo}
 use Rattle.ledger.specs.Ledger.{Room}
 use Rattle.quantity.specs.Limits.{limits}
 use Rattle.sheet.specs.Verdict.{accepted, firstOf, linesChecks, numberOf, lineOf}
-use Rattle.sheet.specs.Code.{refusalNumber}
+use Rattle.judge.specs.Code.{refusalNumber}
 use Rattle.attribution.specs.Attribution.{balance, direct, indirect, boughtDirect, boughtIndirect}
 use Rattle.attribution.specs.Reckoning.{processCount, output, kilosBetween, entered, totalRaised, uncredited}
 use Rattle.reckoner.specs.Works.{MOST}

@@ -11,9 +11,9 @@ use Rattle.lines.specs.Records.{Record, recordsOf}
 use Rattle.goods.specs.Settling.{SIZE, figures}
 use Rattle.quantity.specs.Limits.{limits}
 use Rattle.sheet.specs.Verdict.{accepted, firstOf, numberOf, lineOf}
-use Rattle.sheet.specs.Code.{refusalNumber}
-use Rattle.sheet.specs.declared.refusals.Refusal.{Refusal}
-use Rattle.sheet.specs.declared.refusals.Refusal.the-variants.{Accepted}
+use Rattle.judge.specs.Code.{refusalNumber}
+use Rattle.judge.specs.declared.refusals.Refusal.{Refusal}
+use Rattle.judge.specs.declared.refusals.Refusal.the-variants.{Accepted}
 use Rattle.closing.specs.Closing.{anyLarge, Closed}
 use Rattle.closing.specs.declared.Closing.{Closing}
 use Rattle.attribution.specs.Attribution.{direct, indirect, raised}

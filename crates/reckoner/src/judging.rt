@@ -7,17 +7,17 @@ ghost use lib.ListN.{getD};
 ghost use Rattle.goods.specs.Settling.{SIZE};
 ghost use Rattle.lines.specs.Records.{letter};
 ghost use Rattle.quantity.specs.Limits.{limits};
-ghost use Rattle.sheet.specs.Code.{refusalNumber, orderNumber, lineNumber};
+ghost use Rattle.judge.specs.Code.{refusalNumber, orderNumber, lineNumber};
 use goods::PAIRS;
 use goods::SIZE;
+use judge::order::order_refusal;
+use judge::refusals::Refusal;
+use judge::refusals::refusal_number;
+use judge::shape::shape_refusal;
 use ledger::Ledger;
 use lines::Kind;
 use lines::LineRead;
 use quantity::Kilos;
-use sheet::order::order_refusal;
-use sheet::refusals::Refusal;
-use sheet::refusals::refusal_number;
-use sheet::shape::shape_refusal;
 
 // What the lines above say: how many they are, how many of them are P lines, the kilograms of each process's output and
 // those that G lines take of it, and the grams that they move.

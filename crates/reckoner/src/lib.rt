@@ -14,13 +14,13 @@ use closing::close;
 use closing::too_large;
 use goods::PAIRS;
 use goods::SIZE;
+use judge::refusals::Refusal;
+use judge::refusals::refusal_number;
 use judging::Works;
 use quantity::Grams;
 use quantity::SignedGrams;
 use quantity::limits::BYTES;
 use reading::read_lines;
-use sheet::refusals::Refusal;
-use sheet::refusals::refusal_number;
 
 // The reckoning of a sheet: the refusal and its line, or the figures of each process by its number and the totals.
 pub struct Reckoning {

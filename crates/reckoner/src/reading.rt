@@ -8,14 +8,14 @@ use super::noting::note;
 use entries::weigh;
 use goods::PAIRS;
 use goods::SIZE;
+use judge::refusals::Refusal;
+use judge::refusals::refusal_number;
 use ledger::Ledger;
 use ledger::Totals;
 use ledger::book;
 use lines::read_line;
 use quantity::Grams;
 use quantity::SignedGrams;
-use sheet::refusals::Refusal;
-use sheet::refusals::refusal_number;
 
 // The first refusal by rows 2 to 13 and its line, 0 where there is none, and what the lines say.
 pub struct Read {

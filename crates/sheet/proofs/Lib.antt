@@ -1,10 +1,7 @@
 -- Laws that the crates above cite.
 pub mod Cases
+pub mod EveryKind
 pub mod First
 pub mod Passed
 pub mod OneSheet
-pub mod Rows
-pub mod FieldWords
-pub mod Shaped
 pub mod Held
-pub mod LineNumber

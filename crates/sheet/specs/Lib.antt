@@ -3,4 +3,3 @@ pub mod Kinds
 pub mod Refusals
 pub mod Verdict
 pub mod Cases
-pub mod Code

@@ -1,5 +1,1 @@
-// Document 01, "The sheet" and "Sheets sent back": the rules of lines and the verdict. The definitions are in specs/.
-pub mod refusals; // the rows of the table of refusals, and the limits of a sheet
-pub mod rules; // what each field of a line may hold
-pub mod shape; // rows 2 to 7: the line by itself
-pub mod order; // rows 8 to 13: the line under the lines above it
+// Document 01, "The sheet" and "Sheets sent back". The definitions are in specs/.

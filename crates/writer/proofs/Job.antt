@@ -11,7 +11,7 @@ use Rattle.decimal.specs.Writing.{Put}
 use Rattle.decimal.proofs.Writing.{start-bytes, start-place}
 use Rattle.lines.specs.Records.{Record, recordsOf}
 use Rattle.sheet.specs.Verdict.{Check, check, Verdict, accepted, refused, firstOf}
-use Rattle.sheet.specs.Code.{refusalNumber}
+use Rattle.judge.specs.Code.{refusalNumber}
 use Rattle.attribution.specs.Reckoning as attribution
 use Rattle.attribution.specs.Verdict.{reckonerChecks}
 use Rattle.report.specs.Report.{reportOf}

@@ -19,14 +19,14 @@ use figures::Figure;
 use figures::line_width;
 use figures::put_byte;
 use figures::put_line;
+use judge::refusals::Refusal;
+use judge::refusals::refusal_number;
 use quantity::Grams;
 use quantity::Kilos;
 use quantity::SignedGrams;
 use quantity::limits::PROCESSES;
 use reckoner::Reckoning;
 use reckoner::reckon;
-use sheet::refusals::Refusal;
-use sheet::refusals::refusal_number;
 
 // As many fields as the last line has behind its letter.
 const TOTALS: usize = 4;

@@ -1,5 +1,5 @@
 -- `closing::close` meets its contract. Assumes nothing.
-use mathlib.Core.Path.{_≡_, refl, sym, ap, _∙_}
+use mathlib.Core.Path.{_≡_, refl, sym, ap, ap₂, _∙_, subst}
 use mathlib.Core.List.{List}
 use Prim.Native.Nat.{ℕ, _+_, _^_, _≤_, _<_}
 use native.Mathlib.Omega.{arith}
@@ -52,7 +52,7 @@ raise-all-requires c κs = search needs
 total-requires : tie.Need-total-requires
 total-requires c κs =
     let k = c .before .before in
-    (omega (arith, start k .pre .few), rw (sum-cong _ _ _ (k .raise-all .ensures .1 .at)) (start k .pre .raised))
+    (omega (arith, start k .pre .few), subst (λ (n : ℕ). n < 2 ^ 63) (sym (sum-cong _ _ _ (k .raise-all .ensures .1 .at))) (start k .pre .raised))
 
 pools-from-requires : tie.Need-pools-from-requires
 pools-from-requires c κs =
@@ -79,7 +79,7 @@ returns c =
       indirect-pools = i .pool;
       direct-lefts = d .rest;
       indirect-lefts = i .rest;
-      left = cc (d .all, i .all);
+      left = ap₂ (λ (direct indirect : ℕ). direct + indirect) (d .all) (i .all);
       left-small = left-fits h;
       total-raised = h .before .before .total .ensures ∙ sum-cong _ _ _ (r .raise-all .ensures .1 .at);
     }

@@ -13,7 +13,7 @@ use Rattle.reckoner.proofs.figures_of.Reads as figures-of-reads
 use Rattle.reckoner.proofs.is_large.Reads as is-large-reads
 use Rattle.reckoner.proofs.reading.read_lines.Reads as read-lines-reads
 use Rattle.reckoner.proofs.refused_by.Reads as refused-by-reads
-use Rattle.sheet.proofs.refusals.refusal_number.Reads as refusal-number-reads
+use Rattle.judge.proofs.refusals.refusal_number.Reads as refusal-number-reads
 
 refused-by-requires : tie.Need-refused-by-requires
 refused-by-requires c κs = search needs

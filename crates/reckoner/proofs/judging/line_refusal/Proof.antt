@@ -8,9 +8,9 @@ use Rattle.reckoner.proofs.judging.line_refusal.Reads as reads
 use Rattle.reckoner.proofs.judging.line_refusal.Lts as lts
 use Rattle.reckoner.proofs.judging.good_refusal.Reads as good-refusal-reads
 use Rattle.reckoner.proofs.judging.letter_of.Reads as letter-of-reads
-use Rattle.sheet.proofs.order.order_refusal.Reads as order-refusal-reads
-use Rattle.sheet.proofs.refusals.refusal_number.Reads as refusal-number-reads
-use Rattle.sheet.proofs.shape.shape_refusal.Reads as shape-refusal-reads
+use Rattle.judge.proofs.order.order_refusal.Reads as order-refusal-reads
+use Rattle.judge.proofs.refusals.refusal_number.Reads as refusal-number-reads
+use Rattle.judge.proofs.shape.shape_refusal.Reads as shape-refusal-reads
 
 shape-refusal-requires : tie.Need-shape-refusal-requires
 shape-refusal-requires c κs = search needs

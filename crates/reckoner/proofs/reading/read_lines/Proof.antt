@@ -20,7 +20,7 @@ use Rattle.reckoner.proofs.judging.line_refusal.Reads as line-refusal-r
 use Rattle.reckoner.proofs.noting.note.Reads as note-reads
 use Rattle.reckoner.proofs.reading.nothing_moved.Reads as nothing-moved-reads
 use Rattle.reckoner.proofs.reading.refused_at.Reads as refused-at-reads
-use Rattle.sheet.proofs.refusals.refusal_number.Reads as refusal-number-reads
+use Rattle.judge.proofs.refusals.refusal_number.Reads as refusal-number-reads
 
 abbrev Inv-loop : tie.InvT-loop
 Inv-loop s kilos₀ balances₀ indirect₀ bought-direct₀ bought-indirect₀ outputs₀ taken₀ totals₀ lines₀ count₀ at₀ kilos balances indirect bought-direct bought-indirect outputs taken totals lines count at =

@@ -1,0 +1,199 @@
+-- What the words of a line's fields say is what the fields say: rows 6 and 7. Assumes nothing.
+use mathlib.Core.Path.{_≡_, refl, ap, _∙_}
+use mathlib.Core.Bool.{Bool, true, false, cond, _&&_, _||_, not}
+use mathlib.Core.List.{List, [], _∷_, _++_, map}
+use Prim.Native.Nat.{ℕ, zero, suc, _+_, min, _≤_, _<_}
+use native.Mathlib.Nat.{lt-of-not-le}
+use native.Mathlib.Decide.{decLe}
+use native.Mathlib.Omega.{arith}
+use borrow.Author.Tests.{eq-eqb, ne-eqb, eqb-true, eqb-false, ltb-true, leb-true, le-leb, lt-leb, lt-ltb, le-ltb}
+use lib.Dec.{eqb, leb, ltb}
+use lib.ListN.{length, getD, set, replicate, length-set, length-map, List·getD-eq-default}
+use lib.Seq.{sets, getD-set-same, getD-set-other}
+use Rattle.decimal.proofs.Bools.{and-both}
+use Rattle.lines.specs.Records.{Field, number, dash, other}
+use Rattle.lines.specs.Words.{CAP, DASH, OTHER, word, words}
+use Rattle.lines.specs.declared.Kind.{Kind}
+use Rattle.lines.specs.declared.Kind.the-variants.{Process, SourceStream, Heat, WasteGas, Power, BoughtPrecursor, OwnGood, Unknown}
+use Rattle.quantity.specs.Limits.{Limits}
+use Rattle.sheet.specs.Kinds.{Rule, _to_, exactly, methodRules, processNumber, rules}
+use Rattle.sheet.specs.Refusals.{notNumber, outOfRange}
+use Rattle.sheet.specs.Verdict.{Check, check, refused, firstOf, numberOf, fieldChecks}
+use Rattle.judge.specs.Code.{orElse, wordNumber, wordsNumber}
+use Rattle.sheet.proofs.EveryKind.{by-method}
+
+-- ---- the words of the first eight fields
+
+below : (ws l : List ℕ) (i k : ℕ) → k < i → getD (sets l i ws) k 0 ≡ getD l k 0
+below [] l i k h = refl
+below (w ∷ ws) l i k h = below ws (set l i w) (suc i) k (omega arith) ∙ getD-set-other l i k w 0 (λ e. omega arith)
+
+stored-at : (ws l : List ℕ) (i j : ℕ) → i + j < length l → ((k : ℕ) → i ≤ k → getD l k 0 ≡ 0) → getD (sets l i ws) (i + j) 0 ≡ getD ws j 0
+stored-at [] l i j h z = z (i + j) (omega arith)
+stored-at (w ∷ ws) l i zero h z =
+    let e : i + 0 ≡ i = omega arith in
+    rw e (below ws (set l i w) (suc i) i (omega arith) ∙ getD-set-same l i w 0 (omega arith))
+stored-at (w ∷ ws) l i (suc j) h z =
+    let e : i + suc j ≡ suc i + j = omega arith in
+    rw e
+    (stored-at ws (set l i w) (suc i) j (rw length-set (omega arith)) (λ k g. getD-set-other l i k w 0 (λ q. omega arith) ∙ z k (omega arith)))
+
+zeros : (n k : ℕ) → _≡_ {A = ℕ} (getD (replicate n 0) k 0) 0
+zeros zero k = refl
+zeros (suc n) zero = refl
+zeros (suc n) (suc k) = zeros n k
+
+stored : (fields : List Field) (k : ℕ) → k < 8 → getD (words fields) k 0 ≡ getD (map word fields) k 0
+unfolding words
+stored fields k h = let z : 0 + k ≡ k = omega arith in rw z at (stored-at (map word fields) (replicate 8 0) 0 k (omega arith) (λ j g. zeros 8 j))
+
+mapped-in : (fields : List Field) (k : ℕ) → k < length fields → getD (map word fields) k 0 ≡ word (getD fields k other)
+mapped-in [] k h = absurd (omega arith)
+mapped-in (f ∷ fs) zero h = refl
+mapped-in (f ∷ fs) (suc k) h = mapped-in fs k (omega arith)
+
+-- the word of a field that is there, and of one that is not
+pub word-at : (fields : List Field) (k : ℕ) → k < 8 → k < length fields → getD (words fields) k 0 ≡ word (getD fields k other)
+word-at fields k h g = stored fields k h ∙ mapped-in fields k g
+
+pub word-past : (fields : List Field) (k : ℕ) → k < 8 → length fields ≤ k → getD (words fields) k 0 ≡ 0
+word-past fields k h g = stored fields k h ∙ List·getD-eq-default (map word fields) 0 (rw (length-map fields word) g)
+
+-- ---- the rules by the word of the method
+
+eqb-min : (n k : ℕ) → k < CAP → eqb (min n CAP) k ≡ eqb n k
+eqb-min n k h = go (eqb n k) refl
+  where
+    go : (t : Bool) → eqb n k ≡ t → eqb (min n CAP) k ≡ t
+    go true e = let g = eqb-true n k e in eq-eqb (min n CAP) k (omega arith)
+    go false e = ne-eqb (min n CAP) k (λ g. eqb-false n k e (omega arith))
+
+method-word : (f : Field) → methodRules (number (word f)) ≡ methodRules f
+unfolding methodRules word
+method-word (number n) =
+    rw (eqb-min n 1 (omega arith), eqb-min n 2 (omega arith), eqb-min n 3 (omega arith), eqb-min n 4 (omega arith))
+method-word dash = refl
+method-word other = refl
+
+method-at : (fields : List Field) → methodRules (number (getD (words fields) 1 0)) ≡ methodRules (getD fields 1 other)
+unfolding methodRules
+method-at fields =
+    elim (decLe (length fields) 1) [
+      | yes h ↦ rw (word-past fields 1 (omega arith) h, List·getD-eq-default fields other h)
+      | no h ↦ rw (word-at fields 1 (omega arith) (lt-of-not-le h)) (method-word (getD fields 1 other))
+    ]
+
+-- ---- every range ends below the cap, and `-` stands in none of the first four fields
+
+abbrev pub capped : Rule → Bool
+capped r = leb (r .lowest) CAP && ltb (r .highest) CAP
+
+abbrev pub allCapped : List Rule → Bool
+allCapped [] = true
+allCapped (r ∷ rs) = capped r && allCapped rs
+
+abbrev pub early : List Rule → Bool
+early rs =
+    not (getD rs 0 (exactly 0) .dashAllowed) && (not (getD rs 1 (exactly 0) .dashAllowed)
+    && (not (getD rs 2 (exactly 0) .dashAllowed) && not (getD rs 3 (exactly 0) .dashAllowed)))
+
+abbrev pub tidy : List Rule → Bool
+tidy rs = allCapped rs && early rs
+
+-- the number of the first check that applies
+pub number-cons : (c : Check) (cs : List Check) → numberOf (firstOf (c ∷ cs)) ≡ cond (c .applies) (c .number) (numberOf (firstOf cs))
+unfolding firstOf
+number-cons c cs = go (c .applies)
+  where
+    go : (t : Bool) → numberOf (cond t (refused (c .number) (c .line)) (firstOf cs)) ≡ cond t (c .number) (numberOf (firstOf cs))
+    go true = refl
+    go false = refl
+
+module _ (limits : Limits) (small : limits .processes < CAP) where
+  pub rules-same : (k : Kind) (fields : List Field) → rules limits k (number (getD (words fields) 1 0)) ≡ rules limits k (getD fields 1 other)
+  unfolding rules
+  rules-same Process fields = refl
+  rules-same SourceStream fields = rw (method-at fields)
+  rules-same Heat fields = refl
+  rules-same WasteGas fields = refl
+  rules-same Power fields = refl
+  rules-same BoughtPrecursor fields = refl
+  rules-same OwnGood fields = refl
+  rules-same Unknown fields = refl
+
+  pub tidy-rules : (k : Kind) (f : Field) → tidy (rules limits k f) ≡ true
+  unfolding rules
+  tidy-rules Process f = simp (lt-ltb (limits .processes) CAP small)
+  tidy-rules SourceStream f =
+      by-method (λ (rs : List Rule). tidy (processNumber limits ∷ (1 to 4) ∷ rs) ≡ true)
+      (simp (lt-ltb (limits .processes) CAP small)) (simp (lt-ltb (limits .processes) CAP small))
+      (simp (lt-ltb (limits .processes) CAP small)) (simp (lt-ltb (limits .processes) CAP small)) f
+  tidy-rules Heat f = simp (lt-ltb (limits .processes) CAP small)
+  tidy-rules WasteGas f = simp (lt-ltb (limits .processes) CAP small)
+  tidy-rules Power f = simp (lt-ltb (limits .processes) CAP small)
+  tidy-rules BoughtPrecursor f = simp (lt-ltb (limits .processes) CAP small)
+  tidy-rules OwnGood f = simp (lt-ltb (limits .processes) CAP small)
+  tidy-rules Unknown f = refl
+
+  -- ---- 6 and 7 of one field
+
+  field-number : (rule : Rule) (f : Field) → capped rule ≡ true
+      → wordNumber (rule .lowest) (rule .highest) (rule .dashAllowed) (word f) ≡ cond (notNumber limits rule f) 6 (cond (outOfRange limits rule f) 7 0)
+  unfolding word wordNumber
+  field-number rule f c = go f (leb-true _ _ (and-both (leb (rule .lowest) CAP) (ltb (rule .highest) CAP) c .0)) (ltb-true _ _ (and-both (leb (rule .lowest) CAP) (ltb (rule .highest) CAP) c .1))
+    where
+      within : (b : Bool) → _≡_ {A = ℕ} (cond b 7 0) (cond (b || false) 7 0)
+      within true = refl
+      within false = refl
+
+      over : (a b : Bool) → _≡_ {A = ℕ} (cond a 7 7) (cond (b || true) 7 0)
+      over true true = refl
+      over true false = refl
+      over false true = refl
+      over false false = refl
+
+      go : (f : Field) → rule .lowest ≤ CAP → rule .highest < CAP
+          → wordNumber (rule .lowest) (rule .highest) (rule .dashAllowed) (word f) ≡ cond (notNumber limits rule f) 6 (cond (outOfRange limits rule f) 7 0)
+      go (number n) l h =
+          elim (decLe n (rule .highest)) [
+            | yes g ↦
+                let m : min n CAP ≡ n = omega arith in
+                simp (m, le-leb n (rule .highest) g, le-ltb (rule .highest) n g) (within (ltb n (rule .lowest)))
+            | no g ↦
+                let q : rule .highest < n = lt-of-not-le g in
+                simp (lt-leb (min n CAP) (rule .highest) (omega arith), ne-eqb (min n CAP) DASH (λ e. omega arith), ne-eqb (min n CAP) OTHER (λ e. omega arith), lt-ltb (rule .highest) n q)
+                (over (ltb (min n CAP) (rule .lowest)) (ltb n (rule .lowest)))
+          ]
+      go dash l h = simp (le-ltb DASH (rule .lowest) (omega arith), lt-leb DASH (rule .highest) (omega arith)) (turn (rule .dashAllowed))
+        where
+          turn : (d : Bool) → _≡_ {A = ℕ} (cond d 0 6) (cond (not d) 6 0)
+          turn true = refl
+          turn false = refl
+      go other l h = simp (le-ltb OTHER (rule .lowest) (omega arith), lt-leb OTHER (rule .highest) (omega arith))
+
+  -- ---- 6 and 7 of the fields, before what comes after them
+
+  pub fields-number : (line : ℕ) (rs : List Rule) (fields : List Field) (ws : List ℕ) (k : ℕ) (rest : List Check) → allCapped rs ≡ true
+      → length fields ≡ length rs → ((i : ℕ) → i < length fields → getD ws (k + i) 0 ≡ word (getD fields i other))
+      → numberOf (firstOf (fieldChecks limits line rs fields ++ rest)) ≡ orElse (wordsNumber k rs ws) (numberOf (firstOf rest))
+  unfolding fieldChecks wordsNumber
+  fields-number line [] fields ws k rest c e h = refl
+  fields-number line (r ∷ rs) [] ws k rest c e h = absurd (omega arith)
+  fields-number line (r ∷ rs) (f ∷ fs) ws k rest c e h =
+      let both = and-both (capped r) (allCapped rs) c in
+      let z : k + 0 ≡ k = omega arith in
+      let w : getD ws k 0 ≡ word f = rw z at (h 0 (omega arith)) in
+      let n = ap (wordNumber (r .lowest) (r .highest) (r .dashAllowed)) w ∙ field-number r f (both .0) in
+      number-cons (check 6 line (notNumber limits r f)) _
+      ∙ ap (cond (notNumber limits r f) 6) (number-cons (check 7 line (outOfRange limits r f)) _
+      ∙ ap (cond (outOfRange limits r f) 7) (fields-number line rs fs ws (suc k) rest (both .1) (omega arith) (λ i g. next i (h (suc i) (omega arith)))))
+      ∙ rw n (go (notNumber limits r f) (outOfRange limits r f))
+    where
+      next : (i : ℕ) → getD ws (k + suc i) 0 ≡ word (getD fs i other) → getD ws (suc k + i) 0 ≡ word (getD fs i other)
+      next i q = let z : k + suc i ≡ suc k + i = omega arith in rw z at q
+
+      go : (a b : Bool) → cond a 6 (cond b 7 (orElse (wordsNumber (suc k) rs ws) (numberOf (firstOf rest))))
+          ≡ orElse (orElse (cond a 6 (cond b 7 0)) (wordsNumber (suc k) rs ws)) (numberOf (firstOf rest))
+      go true b = refl
+      go false true = refl
+      go false false = refl

@@ -1,0 +1,2 @@
+-- What the code judges, joined to document 01's definitions by laws.
+pub mod Code

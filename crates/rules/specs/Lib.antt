@@ -1,0 +1,2 @@
+-- The table of kinds as the code holds it.
+pub mod Row
