@@ -69,6 +69,5 @@ pub fn shape_refusal(l: LineRead, above: usize, size: usize) -> Refusal
         return Refusal::LacksLF;
     }
     let kind = l.kind;
-    let words = l.words;
-    fields_refusal(kind, l.count, &words)
+    fields_refusal(kind, l.count, &l.words)
 }

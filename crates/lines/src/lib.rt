@@ -1,7 +1,7 @@
 // Document 01, "The sheet": bytes to lines, fields and records. The definitions are in specs/.
 ghost use mathlib.Core.Path.{_≡_};
 ghost use mathlib.Core.Bool.{true};
-ghost use Prim.Native.Nat.{_+_, _-_, min, _≤_};
+ghost use Prim.Native.Nat.{_+_, _-_, min, _≤_, _<_};
 ghost use lib.ListN.{length, take, drop};
 ghost use Rattle.decimal.specs.Number.{isDigit};
 ghost use Rattle.lines.specs.Lines.{linesOf, lineBytes, lineStart};
@@ -125,23 +125,13 @@ fn scan_field(s: &[u8], start: usize) -> Scanned
     Scanned { value, all, end }
 }
 
-// Where the digits that a field starts with are no longer looked at: after SHORT bytes, or where the sheet ends.
-fn digits_limit(length: usize, start: usize) -> usize
-    requires { ⌜ start ≤ length ⌝ }
-    ensures { λ r. ⌜ r ≡ min length (start + SHORT) ⌝ }
-{
-    if length - start < SHORT {
-        return length;
-    }
-    start + SHORT
-}
-
 // The digits that a field starts with, at most SHORT of them, whose value needs no cap.
 fn leading_digits(s: &[u8], start: usize) -> Digits
-    requires { ⌜ start ≤ length (now s) ⌝ }
+    requires { ⌜ start + SHORT < length (now s) ⌝ }
     ensures { λ r. ⌜ Scanning (now (s .entry)) start (r .value) true (r .end) ⌝ }
+    ensures bounded { λ r. ⌜ r .end ≤ start + SHORT ⌝ }
 {
-    let limit = digits_limit(s.len(), start);
+    let limit = start + SHORT;
     let mut value: u64 = 0;
     let mut end = start;
     while end < limit {
@@ -158,13 +148,10 @@ fn leading_digits(s: &[u8], start: usize) -> Digits
 
 // Whether the digits from start to end are a number and the whole field.
 fn is_number(s: &[u8], start: usize, end: usize) -> bool
-    requires { ⌜ (start ≤ end) × (end ≤ length (now s)) ⌝ }
+    requires { ⌜ (start ≤ end) × (end < length (now s)) ⌝ }
     ensures { λ r. ⌜ (r ≡ true → NumberAt (now (s .entry)) start end) ⌝ }
 {
     if end == start {
-        return false;
-    }
-    if end == s.len() {
         return false;
     }
     let stop = s[end];
@@ -229,12 +216,15 @@ fn read_any(s: &[u8], start: usize) -> FieldRead
     }
 }
 
-// The field that starts here: a short number at once, any other by all its bytes.
+// The field that starts here: a short number at once, any other, and one near the sheet's end, by all its bytes.
 pub fn read_field(s: &[u8], start: usize) -> FieldRead
     requires { ⌜ start ≤ length (now s) ⌝ }
     ensures { λ r. ⌜ FieldReadAt (now (s .entry)) start r ⌝ }
     ensures bounded { λ r. ⌜ FieldBounds (now (s .entry)) start r ⌝ }
 {
+    if s.len() - start <= SHORT {
+        return read_any(s, start);
+    }
     let digits = leading_digits(s, start);
     let end = digits.end;
     if is_number(s, start, end) {

@@ -6,35 +6,35 @@ use borrow.Author.Needs.{needs}
 use lib.ListN.{length, getD}
 use native.Mathlib.Nat.{le-of-eq}
 use Rattle.lines.specs.Words.{CAP}
-use Rattle.lines.specs.Scan.{Scanning}
+use Rattle.lines.specs.Scan.{SHORT, Scanning}
 use Rattle.lines.proofs.Scanning.{digit-range, none-scanned, digit-scanned, digits-below, short-below}
 use Rattle.lines.proofs.leading_digits.Statement.{statement}
 use Rattle.lines.proofs.leading_digits.Tie as tie
 use Rattle.lines.proofs.leading_digits.Reads as reads
 use Rattle.lines.proofs.leading_digits.Lts as lts
-use Rattle.lines.proofs.digits_limit.Reads as digits-limit-reads
 use Rattle.lines.proofs.is_digit.Reads as is-digit-reads
 use Rattle.lines.proofs.wide.Reads as wide-reads
 
 abbrev Inv-loop : tie.InvT-loop
-Inv-loop s start limit value₀ end₀ value end = Scanning s start value true end × ((end ≤ limit) × (value + 1 ≤ 10 ^ (end - start)))
+Inv-loop s start limit value₀ end₀ value end =
+    Scanning s start value true end × ((end ≤ start + SHORT) × (value + 1 ≤ 10 ^ (end - start)))
 
 abbrev μ-loop : tie.MeasureT-loop
-μ-loop s start limit value₀ end₀ value end = limit - end
+μ-loop s start limit value₀ end₀ value end = start + SHORT - end
 
-digits-limit-requires : tie.Need-digits-limit-requires Inv-loop μ-loop
-digits-limit-requires c κs = c .before .pre
+add-limit : tie.Need-add-limit Inv-loop μ-loop
+add-limit c = search needs
 
 nothing : (n : ℕ) → 1 ≤ 10 ^ (n - n)
 nothing n = le-of-eq (ap (λ (k : ℕ). 10 ^ k) (let e : 0 ≡ n - n = omega arith in e))
 
 loop-holds : tie.Need-loop-holds Inv-loop μ-loop
 loop-holds c =
-    let s = c .before .before in
-    (none-scanned _ _ (s .pre), (omega (arith, c .digits-limit .ensures, s .pre), nothing (s .args .start)))
+    let s = c .before in
+    (none-scanned _ _ (omega (arith, s .pre)), (omega arith, nothing (s .args .start)))
 
 shared-slice-read-byte : tie.Need-shared-slice-read-byte Inv-loop μ-loop
-shared-slice-read-byte c = omega (arith, c .before .loop-test .taken, c .before .before .before .digits-limit .ensures)
+shared-slice-read-byte c = omega (arith, c .before .loop-test .taken, c .before .before .before .before .pre)
 
 is-digit-requires : tie.Need-is-digit-requires Inv-loop μ-loop
 is-digit-requires c κs = tt
@@ -42,9 +42,8 @@ is-digit-requires c κs = tt
 mul-value : tie.Need-mul-value Inv-loop μ-loop
 mul-value c =
     let l = c .before .before .before .before .loop in
-    let m = c .before .before .before .before .before .digits-limit .ensures in
     let t = c .before .before .before .loop-test .taken in
-    let b = short-below (l .end - c .before .before .before .before .before .before .before .args .start) (omega arith) in
+    let b = short-below (l .end - c .before .before .before .before .before .before .args .start) (omega arith) in
     omega (arith, l .inv .1 .1)
 
 sub-wide : tie.Need-sub-wide Inv-loop μ-loop
@@ -56,14 +55,13 @@ wide-requires c κs = tt
 add-value : tie.Need-add-value Inv-loop μ-loop
 add-value c =
     let l = c .before .before .before .before .before .loop in
-    let m = c .before .before .before .before .before .before .digits-limit .ensures in
     let t = c .before .before .before .before .loop-test .taken in
-    let b = short-below (l .end - c .before .before .before .before .before .before .before .before .args .start) (omega arith) in
-    let d = digit-range (getD (c .before .before .before .before .before .before .before .before .args .s .now) (l .end) 0) (sym (c .before .before .is-digit .ensures) ∙ c .before .if1 .taken) in
+    let b = short-below (l .end - c .before .before .before .before .before .before .before .args .start) (omega arith) in
+    let d = digit-range (getD (c .before .before .before .before .before .before .before .args .s .now) (l .end) 0) (sym (c .before .before .is-digit .ensures) ∙ c .before .if1 .taken) in
     omega (arith, l .inv .1 .1, c .wide .ensures, d .1)
 
 returns : tie.Need-returns Inv-loop μ-loop
-returns c = c .before .before .before .before .loop .inv .0
+returns c = let v = c .before .before .before .before .loop .inv in (v .0, v .1 .0)
 
 add-end : tie.Need-add-end Inv-loop μ-loop
 add-end c = search needs
@@ -74,21 +72,20 @@ loop-less c = omega (arith, c .before .before .before .before .loop-test .taken)
 loop-again : tie.Need-loop-again Inv-loop μ-loop
 loop-again c =
     let l = c .before .before .before .before .before .loop in
-    let m = c .before .before .before .before .before .before .digits-limit .ensures in
     let t = c .before .before .before .before .loop-test .taken in
-    let b = short-below (l .end - c .before .before .before .before .before .before .before .before .args .start) (omega arith) in
-    let s = c .before .before .before .before .before .before .before .before in
+    let b = short-below (l .end - c .before .before .before .before .before .before .before .args .start) (omega arith) in
+    let s = c .before .before .before .before .before .before .before in
     let digit = sym (c .before .before .is-digit .ensures) ∙ c .before .if1 .taken in
     let d = digit-range (getD (s .args .s .now) (l .end) 0) digit in
-    let inside : l .end < length (s .args .s .now) = omega (arith, t, m) in
+    let inside : l .end < length (s .args .s .now) = omega (arith, t, s .pre) in
     let most = digits-below (l .value) (l .end - s .args .start) (c .wide .result) (l .inv .1 .1) (omega (arith, c .wide .ensures, d .0, d .1)) in
-    let below = short-below (l .end - s .args .start + 1) (omega (arith, t, m, l .inv .0 .least)) in
+    let below = short-below (l .end - s .args .start + 1) (omega (arith, t, l .inv .0 .least)) in
     let v : l .value * 10 + c .wide .result ≡ min (l .value * 10 + (getD (s .args .s .now) (l .end) 0 - 48)) CAP = omega (arith, most, below, c .wide .ensures) in
     let k : l .end + 1 - s .args .start ≡ l .end - s .args .start + 1 = omega (arith, l .inv .0 .least) in
     (rw v (digit-scanned _ _ _ _ _ (l .inv .0) inside digit), (omega (arith, t), rw k most))
 
 returns-2 : tie.Need-returns-2 Inv-loop μ-loop
-returns-2 c = c .before .loop .inv .0
+returns-2 c = let v = c .before .loop .inv in (v .0, v .1 .0)
 
 pub leading-digits-spec : {M : Type 1} → statement M
 leading-digits-spec =
@@ -96,7 +93,7 @@ leading-digits-spec =
     (tie.spec
     Inv-loop
     μ-loop
-    digits-limit-requires
+    add-limit
     loop-holds
     shared-slice-read-byte
     is-digit-requires

@@ -14,14 +14,14 @@ returns c = simp (lt-ltb (limits .lines) (suc (c .before .args .above)) (omega a
 
 returns-2 : tie.Need-returns-2
 unfolding shapeNumber
-returns-2 c = simp (le-ltb (limits .lines) (suc (c .before .before .before .args .above)) (omega arith), eq-eqb _ _ (c .if2 .taken))
+returns-2 c = simp (le-ltb (limits .lines) (suc (c .before .before .args .above)) (omega arith), eq-eqb _ _ (c .if2 .taken))
 
 fields-refusal-requires : tie.Need-fields-refusal-requires
 fields-refusal-requires c κs = search needs
 
 returns-3 : tie.Need-returns-3
 unfolding shapeNumber
-returns-3 c = simp (le-ltb (limits .lines) (suc (c .before .before .before .before .before .before .args .above)) (omega arith), ne-eqb _ _ (c .before .before .before .if2 .left)) (c .fields-refusal .ensures)
+returns-3 c = simp (le-ltb (limits .lines) (suc (c .before .before .before .before .before .args .above)) (omega arith), ne-eqb _ _ (c .before .before .before .if2 .left)) (c .fields-refusal .ensures)
 
 pub shape-refusal-spec : {M : Type 1} → statement M
 shape-refusal-spec = tie.close (tie.spec returns returns-2 fields-refusal-requires returns-3)
