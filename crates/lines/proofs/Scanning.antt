@@ -40,6 +40,20 @@ field-none : fieldLength [] ≡ 0
 unfolding fieldLength
 field-none = refl
 
+from-here : (s : List ℕ) (i : ℕ) → i < length s → drop i s ≡ getD s i 0 ∷ drop (i + 1) s
+from-here s i h = rw add-one (drop-cons s i 0 h)
+
+-- one byte before a comma
+pub field-one : (s : List ℕ) (start : ℕ) → start + 1 < length s → getD s (start + 1) 0 ≡ COMMA → COMMA < getD s start 0
+    → start + 1 ≡ start + fieldLength (drop start s)
+field-one s start h e l =
+    let b : ℕ = getD s start 0 in
+    let first = from-here s start (omega arith) in
+    let next = from-here s (start + 1) h in
+    let one = ap fieldLength first ∙ field-past b (drop (start + 1) s) (λ f. omega arith) (λ f. omega arith) in
+    let none = ap fieldLength next ∙ field-comma (getD s (start + 1) 0) (drop (start + 1 + 1) s) e in
+    omega (arith, one, none)
+
 -- ---- digits
 
 pub digit-range : (b : ℕ) → isDigit b ≡ true → (48 ≤ b) × (b ≤ 57)
@@ -106,7 +120,7 @@ module _ (s : List ℕ) (start value : ℕ) (all : Bool) (end : ℕ) (k : Scanni
     rest = drop (end + 1) s
 
     left : drop end s ≡ b ∷ rest
-    left = rw add-one (drop-cons s end 0 h)
+    left = from-here s end h
 
     pub scanned-LF : b ≡ LF → ScannedAt s start (stopped value all end)
     scanned-LF e = scanned (ap fieldLength left ∙ field-LF b rest e)

@@ -7,7 +7,7 @@ ghost use Rattle.decimal.specs.Number.{isDigit};
 ghost use Rattle.lines.specs.Lines.{linesOf, lineBytes, lineStart};
 ghost use Rattle.lines.specs.Records.{kindOf, kindIn};
 ghost use Rattle.lines.specs.Words.{CAP, lineLength, ReadAt};
-ghost use Rattle.lines.specs.Scan.{wordOf, SHORT, digitsSaid, Scanning, NumberAt, ScannedAt, FieldReadAt, FieldBounds, commaAt, stored, PlaceOf};
+ghost use Rattle.lines.specs.Scan.{fieldLength, wordOf, SHORT, digitsSaid, Scanning, NumberAt, ScannedAt, FieldReadAt, FieldBounds, commaAt, stored, PlaceOf};
 
 // The seven kinds of lines, and a line whose first field is none of their letters.
 pub enum Kind {
@@ -146,21 +146,22 @@ fn leading_digits(s: &[u8], start: usize) -> Digits
     Digits { value, end }
 }
 
-// Whether the digits from start to end are a number and the whole field.
+// Whether the digits from start to end are a number and the whole field. A first byte above `0` is a digit, where a comma or LF ends the field.
 fn is_number(s: &[u8], start: usize, end: usize) -> bool
     requires { ⌜ (start ≤ end) × (end < length (now s)) ⌝ }
     ensures { λ r. ⌜ (r ≡ true → NumberAt (now (s .entry)) start end) ⌝ }
 {
-    if end == start {
-        return false;
-    }
     let stop = s[end];
     if stop != b',' {
         if stop != b'\n' {
             return false;
         }
     }
-    if s[start] == b'0' {
+    let first = s[start];
+    if first <= b'0' {
+        if first != b'0' {
+            return false;
+        }
         return end == start + 1;
     }
     true
@@ -249,6 +250,23 @@ fn word_of(said: Said) -> u64
     }
 }
 
+// The place behind the line's first field: at once where it is one byte before a comma, as every kind's letter is.
+fn first_end(s: &[u8], start: usize) -> usize
+    requires { ⌜ start ≤ length (now s) ⌝ }
+    ensures { λ r. ⌜ r ≡ start + fieldLength (drop start (now (s .entry))) ⌝ }
+    ensures bounded { λ r. ⌜ r ≤ length (now (s .entry)) ⌝ }
+{
+    if 1 < s.len() - start {
+        if s[start + 1] == b',' {
+            if b',' < s[start] {
+                return start + 1;
+            }
+        }
+    }
+    let first = scan_field(s, start);
+    first.end
+}
+
 // The kind whose letter this byte is.
 fn kind_of(letter: u8) -> Kind
     ensures { λ r. ⌜ r ≡ kindOf letter ⌝ }
@@ -302,8 +320,7 @@ pub fn read_line(s: &[u8], start: usize) -> LineRead
     ensures { λ r. ⌜ ReadAt (now (s .entry)) start r ⌝ }
     ensures bounded { λ r. ⌜ (start ≤ r .end) × (r .end ≤ length (now (s .entry))) ⌝ }
 {
-    let first = scan_field(s, start);
-    let mut end = first.end;
+    let mut end = first_end(s, start);
     let kind = kind_in(s, start, end);
     let mut words = [0u64; WORDS];
     let mut count: usize = 0;

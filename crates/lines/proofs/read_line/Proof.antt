@@ -15,8 +15,8 @@ Inv-loop s start end₀ kind words₀ count₀ end words count = (start ≤ end)
 abbrev μ-loop : tie.MeasureT-loop
 μ-loop s start end₀ kind words₀ count₀ end words count = length s - end
 
-scan-field-requires : tie.Need-scan-field-requires Inv-loop μ-loop
-scan-field-requires c κs = search needs
+first-end-requires : tie.Need-first-end-requires Inv-loop μ-loop
+first-end-requires c κs = search needs
 
 kind-in-requires : tie.Need-kind-in-requires Inv-loop μ-loop
 kind-in-requires c κs = search needs
@@ -67,7 +67,7 @@ returns : tie.Need-returns Inv-loop μ-loop
 returns c =
     let l = c .before .before in
     let f = l .before .before in (
-      all-read _ _ _ _ _ (l .loop .inv .3) _ _ (f .before .before .pre) (f .scan-field .ensures .end) (l .before .kind-in .ensures) (sym (c .before .comma-at .ensures) ∙ c .if1 .left),
+      all-read _ _ _ _ _ (l .loop .inv .3) _ _ (f .before .before .pre) (f .first-end .ensures .0) (l .before .kind-in .ensures) (sym (c .before .comma-at .ensures) ∙ c .if1 .left),
       search needs,
     )
 
@@ -77,7 +77,7 @@ read-line-spec =
     (tie.spec
     Inv-loop
     μ-loop
-    scan-field-requires
+    first-end-requires
     kind-in-requires
     loop-holds
     comma-at-requires
