@@ -4,7 +4,7 @@ use mathlib.Core.Path.{_≡_}
 use mathlib.Core.Logic.{_⊎_}
 use mathlib.Core.Bool.{Bool, true, false, cond, _&&_, _||_, not}
 use mathlib.Core.List.{List, [], _∷_}
-use Prim.Native.Nat.{ℕ, suc, _+_, _≤_}
+use Prim.Native.Nat.{ℕ, zero, suc, _+_, _≤_, _<_}
 use lib.Dec.{eqb, ltb, leb}
 use lib.ListN.{length, getD}
 use Rattle.lines.specs.Records.{number, letter}
@@ -14,6 +14,7 @@ use Rattle.lines.specs.declared.Kind.the-variants.{Process, SourceStream, OwnGo
 use Rattle.quantity.specs.Limits.{Limits}
 use Rattle.sheet.specs.Kinds.{Rule, rules, namedFields}
 use Rattle.sheet.specs.Refusals.{tooManyLines, endsOf}
+use Rattle.rules.specs.declared.Rules.{Rules}
 use Rattle.judge.specs.declared.refusals.Refusal.{Refusal}
 use Rattle.judge.specs.declared.refusals.Refusal.the-variants.{Accepted, TooManyBytes, TooManyLines, LacksLF, UnknownKind, WrongFieldCount, NotNumber, OutOfRange, ProcessNotNext, MissingProcess, EndsNotAllowed, NoStandardValue, SecondOfPair, OutputExceeded, EmptySheet, FigureTooLarge, SpaceTooShort}
 
@@ -57,6 +58,16 @@ unfoldable pub wordsNumber : (k : ℕ) → List Rule → (words : List ℕ) → 
 wordsNumber k [] words = 0
 wordsNumber k (rule ∷ rs) words =
     orElse (wordNumber (rule .lowest) (rule .highest) (rule .dashAllowed) (getD words k 0)) (wordsNumber (suc k) rs words)
+
+-- the same by a row of rules: of n fields from k on
+unfoldable pub rowNumber : Rules → (words : List ℕ) → (k n : ℕ) → ℕ
+rowNumber r words k zero = 0
+rowNumber r words k (suc n) =
+    orElse (wordNumber (getD (r .lowest) k 0) (getD (r .highest) k 0) (getD (r .dash) k false) (getD words k 0)) (rowNumber r words (suc k) n)
+
+-- the first n words are numbers within the ranges of a row
+abbrev pub AllWithin : Rules → (words : List ℕ) → (n : ℕ) → Type 0
+AllWithin r words n = (k : ℕ) → k < n → (getD (r .lowest) k 0 ≤ getD words k 0) × (getD words k 0 ≤ getD (r .highest) k 0)
 
 module _ (limits : Limits) where
   -- the rules of a line, by the word of its second field for a source stream

@@ -1,9 +1,10 @@
 // Document 01, "Sheets sent back", rows 2 to 7: the line by itself.
 ghost use mathlib.Core.Path.{_≡_};
-ghost use mathlib.Core.Bool.{not};
+ghost use mathlib.Core.Bool.{true, not};
+ghost use Prim.Native.Nat.{_≤_};
 ghost use lib.Dec.{eqb};
 ghost use Rattle.quantity.specs.Limits.{limits};
-ghost use Rattle.judge.specs.Code.{refusalNumber, wordNumber, fieldsNumber, shapeNumber};
+ghost use Rattle.judge.specs.Code.{refusalNumber, wordNumber, rowNumber, AllWithin, fieldsNumber, shapeNumber};
 use super::refusals::Refusal;
 use super::refusals::refusal_number;
 use lines::DASH;
@@ -11,6 +12,7 @@ use lines::Kind;
 use lines::LineRead;
 use lines::OTHER;
 use quantity::limits::LINES;
+use rules::Rules;
 use rules::rules_of;
 
 // Rows 6 and 7: a field's word by its rule.
@@ -35,20 +37,27 @@ fn field_refusal(word: u64, lowest: u64, highest: u64, dash: bool) -> Refusal
     Refusal::OutOfRange
 }
 
-// Rows 4 to 7: 6 and 7 go field by field from the left.
-fn fields_refusal(kind: Kind, count: usize, words: &[u64; 8]) -> Refusal
-    ensures { λ r. ⌜ refusalNumber r ≡ fieldsNumber limits kind count (now (words .entry)) ⌝ }
+// Whether each word is a number within its range; where a line has fewer fields, the words and ranges of the others are 0.
+fn all_within(words: &[u64; 8], rules: Rules) -> bool
+    ensures { λ r. ⌜ (r ≡ true → AllWithin rules (now (words .entry)) 8) ⌝ }
 {
-    let rules = rules_of(kind, words[1]);
-    let fields = rules.count;
-    if fields == 0 {
-        return Refusal::UnknownKind;
-    }
-    if count != fields {
-        return Refusal::WrongFieldCount;
-    }
+    let mut within = true;
     let mut k: usize = 0;
-    while k < fields {
+    while k < 8 {
+        let word = words[k];
+        within = within & (rules.lowest[k] <= word) & (word <= rules.highest[k]);
+        k += 1;
+    }
+    within
+}
+
+// Rows 6 and 7 field by field from the left.
+fn words_refusal(words: &[u64; 8], rules: Rules) -> Refusal
+    requires { ⌜ rules .count ≤ 8 ⌝ }
+    ensures { λ r. ⌜ refusalNumber r ≡ rowNumber rules (now (words .entry)) 0 (rules .count) ⌝ }
+{
+    let mut k: usize = 0;
+    while k < rules.count {
         let r = field_refusal(words[k], rules.lowest[k], rules.highest[k], rules.dash[k]);
         if refusal_number(r) != 0 {
             return r;
@@ -56,6 +65,23 @@ fn fields_refusal(kind: Kind, count: usize, words: &[u64; 8]) -> Refusal
         k += 1;
     }
     Refusal::Accepted
+}
+
+// Rows 4 to 7.
+fn fields_refusal(kind: Kind, count: usize, words: &[u64; 8]) -> Refusal
+    ensures { λ r. ⌜ refusalNumber r ≡ fieldsNumber limits kind count (now (words .entry)) ⌝ }
+{
+    let rules = rules_of(kind, words[1]);
+    if rules.count == 0 {
+        return Refusal::UnknownKind;
+    }
+    if count != rules.count {
+        return Refusal::WrongFieldCount;
+    }
+    if all_within(words, rules) {
+        return Refusal::Accepted;
+    }
+    words_refusal(words, rules)
 }
 
 // Rows 2 to 7 of a line of a sheet of `size` bytes, with `above` lines above it.

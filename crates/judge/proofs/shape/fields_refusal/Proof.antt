@@ -1,24 +1,23 @@
--- `fields_refusal` meets its contract. The loop's invariant: the fields that are left give the number that all of them give. Assumes nothing.
+-- `fields_refusal` meets its contract. Assumes nothing.
+use mathlib.Core.Path.{_≡_, sym, _∙_}
 use mathlib.Core.List.{List}
-use Rattle.judge.specs.Code.{refusalNumber, orElse, fieldsNumber}
-use Rattle.rules.specs.declared.Rules.{Rules}
-use Rattle.quantity.specs.Limits.{limits}
-use borrow.Author.Needs.{needs}
-use Prim.Native.Nat.{ℕ, _+_, _-_, _≤_, _<_}
+use Prim.Native.Nat.{ℕ, _≤_}
 use native.Mathlib.Omega.{arith}
-use mathlib.Core.Path.{_≡_, sym, ap, _∙_}
-use Rattle.judge.proofs.Rows.{rowNumber, row-step, row-none, row-few, fields-unknown, fields-count, fields-row, else-first, else-next}
+use borrow.Author.Needs.{needs}
+use Rattle.quantity.specs.Limits.{limits}
+use Rattle.rules.specs.declared.Rules.{Rules}
+use Rattle.judge.specs.Code.{rowNumber, fieldsNumber}
+use Rattle.judge.proofs.Rows.{row-within, row-few, fields-unknown, fields-count, fields-row}
 use Rattle.judge.proofs.shape.fields_refusal.Statement.{statement}
 use Rattle.judge.proofs.shape.fields_refusal.Tie as tie
-
-abbrev Inv-loop : tie.InvT-loop
-Inv-loop count words rules fields k₀ k = (fields ≤ 8) × (k ≤ fields) × (rowNumber rules words k (fields - k) ≡ rowNumber rules words 0 fields)
-
-abbrev μ-loop : tie.MeasureT-loop
-μ-loop count words rules fields k₀ k = fields - k
+use Rattle.judge.proofs.shape.fields_refusal.Reads as reads
+use Rattle.judge.proofs.shape.fields_refusal.Lts as lts
+use Rattle.judge.proofs.shape.all_within.Reads as all-within-reads
+use Rattle.judge.proofs.shape.words_refusal.Reads as words-refusal-reads
+use Rattle.rules.proofs.rules_of.Reads as rules-of-reads
 
 -- the row of rules, and the number that is to be given
-module _ (c : tie.After-rules-of Inv-loop μ-loop) where
+module _ (c : tie.After-rules-of) where
   abbrev rules : Rules
   rules = c .rules-of .result
 
@@ -40,114 +39,42 @@ module _ (c : tie.After-rules-of Inv-loop μ-loop) where
   by-row : (rules .count ≡ 0 → ⊥) → c .before .before .args .count ≡ rules .count → rowNumber rules words 0 (rules .count) ≡ number
   by-row n m = sym (fields-row limits (c .before .before .args .kind) (c .before .before .args .count) words rules (c .rules-of .ensures) n m)
 
-element-copy-out-rules-of : tie.Need-element-copy-out-rules-of Inv-loop μ-loop
+element-copy-out-rules-of : tie.Need-element-copy-out-rules-of
 element-copy-out-rules-of c = search needs
 
-rules-of-requires : tie.Need-rules-of-requires Inv-loop μ-loop
+rules-of-requires : tie.Need-rules-of-requires
 rules-of-requires c κs = search needs
 
-returns : tie.Need-returns Inv-loop μ-loop
-returns c = unknown (c .before) (c .if1 .taken)
+returns : tie.Need-returns
+returns c = unknown (c .before .before) (c .if1 .taken)
 
-returns-2 : tie.Need-returns-2 Inv-loop μ-loop
-returns-2 c = other-count (c .before .before) (c .before .if1 .left) (c .if2 .taken)
+returns-2 : tie.Need-returns-2
+returns-2 c = other-count (c .before .before .before .before) (c .before .before .if1 .left) (c .if2 .taken)
 
-loop-holds : tie.Need-loop-holds Inv-loop μ-loop
-loop-holds c =
-    let row = c .before .before in
-    let e : rules row .count - 0 ≡ rules row .count = omega arith in
-    (few row, omega arith, ap (rowNumber (rules row) (words row) 0) e)
+all-within-requires : tie.Need-all-within-requires
+all-within-requires c κs = search needs
 
-mul-field-refusal : tie.Need-mul-field-refusal Inv-loop μ-loop
-mul-field-refusal c = search needs
-
-element-copy-out-field-refusal : tie.Need-element-copy-out-field-refusal Inv-loop μ-loop
-element-copy-out-field-refusal c = search needs
-
-mul-field-refusal-2 : tie.Need-mul-field-refusal-2 Inv-loop μ-loop
-mul-field-refusal-2 c = search needs
-
-element-copy-out-field-refusal-2 : tie.Need-element-copy-out-field-refusal-2 Inv-loop μ-loop
-element-copy-out-field-refusal-2 c = search needs
-
-mul-field-refusal-3 : tie.Need-mul-field-refusal-3 Inv-loop μ-loop
-mul-field-refusal-3 c = search needs
-
-element-copy-out-field-refusal-3 : tie.Need-element-copy-out-field-refusal-3 Inv-loop μ-loop
-element-copy-out-field-refusal-3 c = search needs
-
-element-copy-out-field-refusal-4 : tie.Need-element-copy-out-field-refusal-4 Inv-loop μ-loop
-element-copy-out-field-refusal-4 c = search needs
-
-field-refusal-requires : tie.Need-field-refusal-requires Inv-loop μ-loop
-field-refusal-requires c κs = search needs
-
-refusal-number-requires : tie.Need-refusal-number-requires Inv-loop μ-loop
-refusal-number-requires c κs = search needs
-
--- a turn judges one field
-module _ (c : tie.After-field-refusal Inv-loop μ-loop) where
-  abbrev k : ℕ
-  k = c .before .before .before .before .before .before .loop .k
-
-  abbrev row : tie.After-rules-of Inv-loop μ-loop
-  row = c .before .before .before .before .before .before .before .before .before
-
-  abbrev left : ℕ
-  left = rowNumber (rules row) (words row) (k + 1) (rules row .count - (k + 1))
-
-  judged : rowNumber (rules row) (words row) k (rules row .count - k) ≡ orElse (refusalNumber (c .field-refusal .result)) left
-  judged =
-      let h : k < rules row .count = omega arith in
-      row-step (rules row) (words row) k (rules row .count) h ∙ ap (λ (n : ℕ). orElse n left) (sym (c .field-refusal .ensures))
-
-returns-3 : tie.Need-returns-3 Inv-loop μ-loop
+returns-3 : tie.Need-returns-3
 returns-3 c =
-    let at = c .before .before .before .before .before .before .before .before in
-    sym (else-first _ _ (λ z. c .if3 .taken (c .before .refusal-number .ensures ∙ z))) ∙ sym (judged (c .before .before)) ∙ at .loop .inv .2
-    ∙ by-row (at .before .before .before) (at .before .before .if1 .left) (at .before .if2 .left)
+    let row = c .before .before .before .before .before .before in
+    sym (row-within (rules row) (words row) (c .before .all-within .ensures (c .if3 .taken)) (rules row .count) 0 (omega (arith, few row)))
+    ∙ by-row row (c .before .before .before .before .if1 .left) (c .before .before .if2 .left)
 
-add-k : tie.Need-add-k Inv-loop μ-loop
-add-k c = search needs
+words-refusal-requires : tie.Need-words-refusal-requires
+words-refusal-requires c κs = few (c .before .before .before .before .before .before)
 
-loop-less : tie.Need-loop-less Inv-loop μ-loop
-loop-less c = search needs
-
-loop-again : tie.Need-loop-again Inv-loop μ-loop
-loop-again c =
-    let v = c .before .before .before .before .before .before .before .before .loop .inv in
-    (v .0, omega arith, sym (else-next _ _ (sym (c .before .refusal-number .ensures) ∙ c .if3 .left)) ∙ sym (judged (c .before .before)) ∙ v .2)
-
-returns-4 : tie.Need-returns-4 Inv-loop μ-loop
-returns-4 c =
-    let at = c .before in
-    let row = at .before .before .before in
-    let h : rules row .count ≤ at .loop .k = omega arith in
-    sym (row-none (rules row) (words row) (at .loop .k) (rules row .count) h) ∙ at .loop .inv .2
-    ∙ by-row row (at .before .before .if1 .left) (at .before .if2 .left)
+returns-4 : tie.Need-returns-4
+returns-4 c = c .words-refusal .ensures ∙ by-row (c .before .before .before .before .before .before .before) (c .before .before .before .before .before .if1 .left) (c .before .before .before .if2 .left)
 
 pub fields-refusal-spec : {M : Type 1} → statement M
 fields-refusal-spec =
     tie.close
     (tie.spec
-    Inv-loop
-    μ-loop
     element-copy-out-rules-of
     rules-of-requires
     returns
     returns-2
-    loop-holds
-    mul-field-refusal
-    element-copy-out-field-refusal
-    mul-field-refusal-2
-    element-copy-out-field-refusal-2
-    mul-field-refusal-3
-    element-copy-out-field-refusal-3
-    element-copy-out-field-refusal-4
-    field-refusal-requires
-    refusal-number-requires
+    all-within-requires
     returns-3
-    add-k
-    loop-less
-    loop-again
+    words-refusal-requires
     returns-4)
