@@ -39,21 +39,21 @@ struct Pools {
 
 // Bought grams are added to the attribution, and the pools settled.
 fn pools_from(
-    attribution: [u64; SIZE],
-    bought: [u64; SIZE],
-    outputs: [u64; SIZE],
+    attribution: &[u64; SIZE],
+    bought: &[u64; SIZE],
+    outputs: &[u64; SIZE],
     kilos: &[u64; PAIRS],
     count: usize,
 ) -> Pools
     requires { ⌜ count ≤ PROCESSES ⌝ }
-    requires { ⌜ Settleable count (figures outputs) (pairs (now kilos)) (together attribution bought) ⌝ }
-    ensures { λ r. ⌜ Pooled count (figures outputs) (pairs (now (kilos .entry))) (together attribution bought) (r .pools) (r .lefts) (r .left .0) ⌝ }
+    requires { ⌜ Settleable count (figures (now outputs)) (pairs (now kilos)) (together (now attribution) (now bought)) ⌝ }
+    ensures { λ r. ⌜ Pooled count (figures (now (outputs .entry))) (pairs (now (kilos .entry))) (together (now (attribution .entry)) (now (bought .entry))) (r .pools) (r .lefts) (r .left .0) ⌝ }
 {
     let own = add_all(attribution, bought, count);
     let settled = settle(own, outputs, kilos, count);
     let pools = settled.pools;
     let lefts = settled.lefts;
-    let left = total(lefts, count);
+    let left = total(&lefts, count);
     Pools {
         pools: pools,
         lefts: lefts,
@@ -62,20 +62,17 @@ fn pools_from(
 }
 
 // Balances are raised to zero before anything bought or taken is added.
-pub fn close(l: Ledger, outputs: [u64; SIZE], kilos: &[u64; PAIRS], count: usize) -> Closing
-    requires { ⌜ Ready l outputs (now kilos) count ⌝ }
-    ensures { λ r. ⌜ Closed l outputs (now (kilos .entry)) count r ⌝ }
+pub fn close(l: Ledger, outputs: &[u64; SIZE], kilos: &[u64; PAIRS], count: usize) -> Closing
+    requires { ⌜ Ready l (now outputs) (now kilos) count ⌝ }
+    ensures { λ r. ⌜ Closed l (now (outputs .entry)) (now (kilos .entry)) count r ⌝ }
 {
-    let balances = l.balances;
     let indirect = l.indirect;
-    let bought_direct = l.bought_direct;
-    let bought_indirect = l.bought_indirect;
-    let outcome = raise_all(balances, count);
+    let outcome = raise_all(&l.balances, count);
     let direct = outcome.direct;
     let raised = outcome.raised;
-    let total_raised = total(raised, count);
-    let direct_side = pools_from(direct, bought_direct, outputs, kilos, count);
-    let indirect_side = pools_from(indirect, bought_indirect, outputs, kilos, count);
+    let total_raised = total(&raised, count);
+    let direct_side = pools_from(&direct, &l.bought_direct, outputs, kilos, count);
+    let indirect_side = pools_from(&indirect, &l.bought_indirect, outputs, kilos, count);
     let direct_pools = direct_side.pools;
     let indirect_pools = indirect_side.pools;
     let direct_lefts = direct_side.lefts;
@@ -97,9 +94,9 @@ pub fn close(l: Ledger, outputs: [u64; SIZE], kilos: &[u64; PAIRS], count: usize
 }
 
 // Refusal 15: whether a figure of a process 1 .. count is 2^63 or more.
-pub fn too_large(a: [u64; SIZE], count: usize) -> bool
+pub fn too_large(a: &[u64; SIZE], count: usize) -> bool
     requires { ⌜ count < SIZE ⌝ }
-    ensures { λ r. ⌜ r ≡ anyLarge count (figures a) ⌝ }
+    ensures { λ r. ⌜ r ≡ anyLarge count (figures (now (a .entry))) ⌝ }
 {
     let mut large = false;
     let mut done: usize = 0;

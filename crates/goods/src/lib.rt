@@ -54,10 +54,15 @@ fn pass_on(
 }
 
 // The pools of processes 1 .. count, settled one after the other, and what is left of each. `own` is the attribution of a process and its bought grams.
-pub fn settle(own: [u64; SIZE], outputs: [u64; SIZE], kilos: &[u64; PAIRS], count: usize) -> Settled
+pub fn settle(
+    own: [u64; SIZE],
+    outputs: &[u64; SIZE],
+    kilos: &[u64; PAIRS],
+    count: usize,
+) -> Settled
     requires { ⌜ count ≤ PROCESSES ⌝ }
-    requires { ⌜ Settleable count (figures outputs) (pairs (now kilos)) (figures own) ⌝ }
-    ensures { λ r. ⌜ PoolsSettled SIZE count (figures outputs) (pairs (now (kilos .entry))) (figures own) (r .pools) (r .lefts) ⌝ }
+    requires { ⌜ Settleable count (figures (now outputs)) (pairs (now kilos)) (figures own) ⌝ }
+    ensures { λ r. ⌜ PoolsSettled SIZE count (figures (now (outputs .entry))) (pairs (now (kilos .entry))) (figures own) (r .pools) (r .lefts) ⌝ }
 {
     let mut pools = own;
     let mut lefts = [0; SIZE];

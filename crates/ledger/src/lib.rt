@@ -139,11 +139,11 @@ pub fn raise(balance: SignedGrams) -> Raised
 }
 
 // Each balance raised to zero.
-pub fn raise_all(balances: [i64; SIZE], count: usize) -> RaisedAll
+pub fn raise_all(balances: &[i64; SIZE], count: usize) -> RaisedAll
     requires { ⌜ count < SIZE ⌝ }
-    requires { ⌜ ((k : ℕ) → natAbs (getD balances k (pos 0)) ≤ 9200000000000000000) ⌝ }
-    ensures direct { λ r. ⌜ Column count (λ k. raisedToZero (getD balances k (pos 0))) (r .direct) ⌝ }
-    ensures raised { λ r. ⌜ Column count (λ k. gramsAdded (getD balances k (pos 0))) (r .raised) ⌝ }
+    requires { ⌜ ((k : ℕ) → natAbs (getD (now balances) k (pos 0)) ≤ 9200000000000000000) ⌝ }
+    ensures direct { λ r. ⌜ Column count (λ k. raisedToZero (getD (now (balances .entry)) k (pos 0))) (r .direct) ⌝ }
+    ensures raised { λ r. ⌜ Column count (λ k. gramsAdded (getD (now (balances .entry)) k (pos 0))) (r .raised) ⌝ }
 {
     let mut direct: [u64; SIZE] = [0; SIZE];
     let mut raised: [u64; SIZE] = [0; SIZE];
@@ -163,10 +163,10 @@ pub fn raise_all(balances: [i64; SIZE], count: usize) -> RaisedAll
 }
 
 // Two figures of each process together.
-pub fn add_all(a: [u64; SIZE], b: [u64; SIZE], count: usize) -> [u64; SIZE]
+pub fn add_all(a: &[u64; SIZE], b: &[u64; SIZE], count: usize) -> [u64; SIZE]
     requires { ⌜ count < SIZE ⌝ }
-    requires { ⌜ ((k : ℕ) → 1 ≤ k → k ≤ count → getD a k 0 + getD b k 0 < 2 ^ 64) ⌝ }
-    ensures { λ r. ⌜ Column count (λ k. getD a k 0 + getD b k 0) r ⌝ }
+    requires { ⌜ ((k : ℕ) → 1 ≤ k → k ≤ count → getD (now a) k 0 + getD (now b) k 0 < 2 ^ 64) ⌝ }
+    ensures { λ r. ⌜ Column count (λ k. getD (now (a .entry)) k 0 + getD (now (b .entry)) k 0) r ⌝ }
 {
     let mut both: [u64; SIZE] = [0; SIZE];
     let mut done: usize = 0;
@@ -179,10 +179,10 @@ pub fn add_all(a: [u64; SIZE], b: [u64; SIZE], count: usize) -> [u64; SIZE]
 }
 
 // The figures of all processes together.
-pub fn total(a: [u64; SIZE], count: usize) -> Grams
+pub fn total(a: &[u64; SIZE], count: usize) -> Grams
     requires { ⌜ count < SIZE ⌝ }
-    requires { ⌜ sumTo count (λ k. getD a k 0) < 2 ^ 63 ⌝ }
-    ensures { λ r. ⌜ r .0 ≡ sumTo count (λ k. getD a k 0) ⌝ }
+    requires { ⌜ sumTo count (λ k. getD (now a) k 0) < 2 ^ 63 ⌝ }
+    ensures { λ r. ⌜ r .0 ≡ sumTo count (λ k. getD (now (a .entry)) k 0) ⌝ }
 {
     let mut sum: u64 = 0;
     let mut done: usize = 0;

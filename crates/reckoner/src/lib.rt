@@ -69,18 +69,11 @@ fn large_rows(f: Closing, count: usize) -> bool
     requires { ⌜ count < SIZE ⌝ }
     ensures { λ r. ⌜ r ≡ largeRows f count ⌝ }
 {
-    let direct = f.direct;
-    let indirect = f.indirect;
-    let raised = f.raised;
-    let direct_pools = f.direct_pools;
-    let indirect_pools = f.indirect_pools;
-    let direct_lefts = f.direct_lefts;
-    let indirect_lefts = f.indirect_lefts;
-    let attributed = too_large(direct, count)
-        | too_large(indirect, count)
-        | too_large(raised, count);
-    let pooled = too_large(direct_pools, count) | too_large(indirect_pools, count);
-    let left = too_large(direct_lefts, count) | too_large(indirect_lefts, count);
+    let attributed = too_large(&f.direct, count)
+        | too_large(&f.indirect, count)
+        | too_large(&f.raised, count);
+    let pooled = too_large(&f.direct_pools, count) | too_large(&f.indirect_pools, count);
+    let left = too_large(&f.direct_lefts, count) | too_large(&f.indirect_lefts, count);
     attributed | pooled | left
 }
 
@@ -104,7 +97,7 @@ fn figures_of(works: Works, kilos: &[u64; PAIRS]) -> Reckoning
     let totals = ledger.totals;
     let entered = totals.entered;
     let uncredited = totals.uncredited;
-    let figures = close(ledger, outputs, kilos, works.count);
+    let figures = close(ledger, &outputs, kilos, works.count);
     Reckoning {
         refusal: Refusal::Accepted,
         line: 0,

@@ -15,10 +15,10 @@ module _ (c : tie.After-add-all) where
   abbrev own : ℕ → ℕ
   own = figures (c .add-all .result)
 
-  own-is : (k : ℕ) → 1 ≤ k → k ≤ c .before .args .count → own k ≡ together (c .before .args .attribution) (c .before .args .bought) k
+  own-is : (k : ℕ) → 1 ≤ k → k ≤ c .before .args .count → own k ≡ together (now (c .before .args .attribution)) (now (c .before .args .bought)) k
   own-is = c .add-all .ensures .at
 
-  settleable : Settleable (c .before .args .count) (figures (c .before .args .outputs)) (pairs (now (c .before .args .kilos))) own
+  settleable : Settleable (c .before .args .count) (figures (now (c .before .args .outputs))) (pairs (now (c .before .args .kilos))) own
   settleable = settleable-cong (λ k l h. sym (own-is k l h)) (c .before .pre .1)
 
 add-all-requires : tie.Need-add-all-requires
@@ -29,13 +29,13 @@ settle-requires c κs = (c .before .pre .0, settleable c)
 
 total-requires : tie.Need-total-requires
 total-requires c κs =
-    let k = c .before .before .before in
-    (omega (arith, k .before .pre .0), left-small (settleable k) (c .before .before .settle .ensures))
+    let k = c .before .before .before .before in
+    (omega (arith, k .before .pre .0), left-small (settleable k) (c .before .before .before .settle .ensures))
 
 returns : tie.Need-returns
 returns c =
-    let k = c .before .before .before .before in
-    pooled-cong (own-is k) (pooled (settleable k) (c .before .before .before .settle .ensures) (c .total .ensures))
+    let k = c .before .before .before .before .before in
+    pooled-cong (own-is k) (pooled (settleable k) (c .before .before .before .before .settle .ensures) (c .total .ensures))
 
 pub pools-from-spec : {M : Type 1} → statement M
 pools-from-spec = tie.close (tie.spec add-all-requires settle-requires total-requires returns)

@@ -16,11 +16,11 @@ unfolding anyLarge
 next n f = rw add-one
 
 abbrev Inv-loop : tie.InvT-loop
-Inv-loop count a large₀ done₀ large done =
+Inv-loop a count large₀ done₀ large done =
     (done ≤ count) × (large ≡ anyLarge done (figures a))
 
 abbrev μ-loop : tie.MeasureT-loop
-μ-loop count a large₀ done₀ large done = count - done
+μ-loop a count large₀ done₀ large done = count - done
 
 loop-holds : tie.Need-loop-holds Inv-loop μ-loop
 unfolding anyLarge
@@ -32,16 +32,16 @@ add-k c = omega arith
 mul-large : tie.Need-mul-large Inv-loop μ-loop
 mul-large c = omega arith
 
-array-read-large : tie.Need-array-read-large Inv-loop μ-loop
-array-read-large c = omega arith
+element-copy-out-large : tie.Need-element-copy-out-large Inv-loop μ-loop
+element-copy-out-large c = omega arith
 
 loop-less : tie.Need-loop-less Inv-loop μ-loop
 loop-less c = omega arith
 
 loop-again : tie.Need-loop-again Inv-loop μ-loop
 loop-again c =
-    let k = c .before in
-    (omega arith, rw (next (k .loop .done) (figures (k .before .args .t1)), ← k .loop .inv .1))
+    let k = c .before .before in
+    (omega arith, rw (next (k .loop .done) (figures (k .before .args .a .now)), ← k .loop .inv .1))
 
 returns : tie.Need-returns Inv-loop μ-loop
 returns c =
@@ -57,7 +57,7 @@ too-large-spec =
     loop-holds
     add-k
     mul-large
-    array-read-large
+    element-copy-out-large
     loop-less
     loop-again
     returns)

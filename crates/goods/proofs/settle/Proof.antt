@@ -10,11 +10,11 @@ use Rattle.goods.proofs.settle.Statement.{statement}
 use Rattle.goods.proofs.settle.Tie as tie
 
 abbrev Inv-loop : tie.InvT-loop
-Inv-loop kilos count outputs pools₀ lefts₀ i₀ pools lefts i =
+Inv-loop outputs kilos count pools₀ lefts₀ i₀ pools lefts i =
     (1 ≤ i) × (i ≤ count + 1) × (Settling count (figures outputs) (pairs kilos) (figures pools₀) SIZE (i - 1) pools lefts)
 
 abbrev μ-loop : tie.MeasureT-loop
-μ-loop kilos count outputs pools₀ lefts₀ i₀ pools lefts i = count + 1 - i
+μ-loop outputs kilos count pools₀ lefts₀ i₀ pools lefts i = count + 1 - i
 
 loop-holds : tie.Need-loop-holds Inv-loop μ-loop
 loop-holds c = (omega arith, omega arith, settling-none _ _ _ _ SIZE (c .args .own) (search needs) (λ k. refl))
@@ -22,12 +22,12 @@ loop-holds c = (omega arith, omega arith, settling-none _ _ _ _ SIZE (c .args .o
 mul-output : tie.Need-mul-output Inv-loop μ-loop
 mul-output c = omega arith
 
-array-read-output : tie.Need-array-read-output Inv-loop μ-loop
-array-read-output c = omega arith
+element-copy-out-output : tie.Need-element-copy-out-output Inv-loop μ-loop
+element-copy-out-output c = omega arith
 
 pass-on-requires : tie.Need-pass-on-requires Inv-loop μ-loop
 pass-on-requires c κs =
-    let h = c .before .before in (
+    let h = c .before .before .before in (
       (omega arith, h .before .pre .0),
       (h .loop .inv .2 .pools-size, settling-can (h .before .pre .1) (h .loop .inv .2) (omega arith) (omega arith)),
     )
@@ -46,7 +46,7 @@ loop-less c = omega arith
 
 loop-again : tie.Need-loop-again Inv-loop μ-loop
 loop-again c =
-    let h = c .before .before .before in
+    let h = c .before .before .before .before in
     let e : h .loop .i + 1 - 1 ≡ h .loop .i = omega arith in
     (omega arith, omega arith, rw e (settling-next (h .before .pre .1) (h .loop .inv .2) (omega arith) (omega arith) (omega arith) (c .pass-on .ensures)))
 
@@ -61,7 +61,7 @@ settle-spec =
     μ-loop
     loop-holds
     mul-output
-    array-read-output
+    element-copy-out-output
     pass-on-requires
     mul-lefts
     array-write-lefts

@@ -10,11 +10,11 @@ use Rattle.ledger.proofs.add_all.Statement.{statement}
 use Rattle.ledger.proofs.add_all.Tie as tie
 
 abbrev Inv-loop : tie.InvT-loop
-Inv-loop count a b both₀ done₀ both done =
+Inv-loop a b count both₀ done₀ both done =
     (done ≤ count) × (Column done (λ k. getD a k 0 + getD b k 0) both)
 
 abbrev μ-loop : tie.MeasureT-loop
-μ-loop count a b both₀ done₀ both done = count - done
+μ-loop a b count both₀ done₀ both done = count - done
 
 loop-holds : tie.Need-loop-holds Inv-loop μ-loop
 loop-holds c = (omega arith, column-none _)
@@ -25,17 +25,17 @@ add-k c = search needs
 mul-both : tie.Need-mul-both Inv-loop μ-loop
 mul-both c = search needs
 
-array-read-both : tie.Need-array-read-both Inv-loop μ-loop
-array-read-both c = search needs
+element-copy-out-both : tie.Need-element-copy-out-both Inv-loop μ-loop
+element-copy-out-both c = search needs
 
 mul-both-2 : tie.Need-mul-both-2 Inv-loop μ-loop
 mul-both-2 c = search needs
 
-array-read-both-2 : tie.Need-array-read-both-2 Inv-loop μ-loop
-array-read-both-2 c = search needs
+element-copy-out-both-2 : tie.Need-element-copy-out-both-2 Inv-loop μ-loop
+element-copy-out-both-2 c = search needs
 
 add-both : tie.Need-add-both Inv-loop μ-loop
-add-both c = record { fits = c .before .before .pre .1 (c .before .loop .done + 1) (omega arith) (omega arith) }
+add-both c = record { fits = c .before .before .before .before .pre .1 (c .before .before .before .loop .done + 1) (omega arith) (omega arith) }
 
 mul-both-3 : tie.Need-mul-both-3 Inv-loop μ-loop
 mul-both-3 c = search needs
@@ -47,7 +47,7 @@ loop-less : tie.Need-loop-less Inv-loop μ-loop
 loop-less c = search needs
 
 loop-again : tie.Need-loop-again Inv-loop μ-loop
-loop-again c = (omega arith, column-more _ _ _ _ (omega arith) (c .before .loop .inv .1) refl)
+loop-again c = (omega arith, column-more _ _ _ _ (omega arith) (c .before .before .before .loop .inv .1) refl)
 
 returns : tie.Need-returns Inv-loop μ-loop
 returns c =
@@ -63,9 +63,9 @@ add-all-spec =
     loop-holds
     add-k
     mul-both
-    array-read-both
+    element-copy-out-both
     mul-both-2
-    array-read-both-2
+    element-copy-out-both-2
     add-both
     mul-both-3
     array-write-both

@@ -15,17 +15,17 @@ use Rattle.ledger.proofs.raise_all.Statement.{statement}
 use Rattle.ledger.proofs.raise_all.Tie as tie
 
 abbrev Inv-loop : tie.InvT-loop
-Inv-loop count balances direct₀ raised₀ done₀ direct raised done =
+Inv-loop balances count direct₀ raised₀ done₀ direct raised done =
     (done ≤ count)
     × (Column done (λ k. raisedToZero (getD balances k (pos 0))) direct)
     × (Column done (λ k. gramsAdded (getD balances k (pos 0))) raised)
 
 abbrev μ-loop : tie.MeasureT-loop
-μ-loop count balances direct₀ raised₀ done₀ direct raised done = count - done
+μ-loop balances count direct₀ raised₀ done₀ direct raised done = count - done
 
 -- a balance, which fits
-fits : (c : tie.Start Inv-loop μ-loop) (k : ℕ) → toZ w64 (ofZ w64 (getD (c .args .t1) k (pos 0))) ≡ getD (c .args .t1) k (pos 0)
-fits c k = kept (getD (c .args .t1) k (pos 0)) (omega (arith, c .pre .1 k))
+fits : (c : tie.Start Inv-loop μ-loop) (k : ℕ) → toZ w64 (ofZ w64 (getD (c .args .balances .now) k (pos 0))) ≡ getD (c .args .balances .now) k (pos 0)
+fits c k = kept (getD (c .args .balances .now) k (pos 0)) (omega (arith, c .pre .1 k))
 
 loop-holds : tie.Need-loop-holds Inv-loop μ-loop
 loop-holds c = (omega arith, column-none _, column-none _)
@@ -36,8 +36,8 @@ add-k c = search needs
 mul-balance : tie.Need-mul-balance Inv-loop μ-loop
 mul-balance c = search needs
 
-array-copy-out-balance : tie.Need-array-copy-out-balance Inv-loop μ-loop
-array-copy-out-balance c = search needs
+element-copy-out-balance : tie.Need-element-copy-out-balance Inv-loop μ-loop
+element-copy-out-balance c = search needs
 
 raise-requires : tie.Need-raise-requires Inv-loop μ-loop
 raise-requires c κs =
@@ -79,7 +79,7 @@ raise-all-spec =
     loop-holds
     add-k
     mul-balance
-    array-copy-out-balance
+    element-copy-out-balance
     raise-requires
     mul-direct
     array-write-direct

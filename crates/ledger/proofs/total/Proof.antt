@@ -15,11 +15,11 @@ next : (n : ℕ) (f : ℕ → ℕ) → sumTo (n + 1) f ≡ sumTo n f + f (n + 1)
 next n f = rw add-one (sum-suc n f)
 
 abbrev Inv-loop : tie.InvT-loop
-Inv-loop count a sum₀ done₀ sum done =
+Inv-loop a count sum₀ done₀ sum done =
     (done ≤ count) × (sum ≡ sumTo done (λ k. getD a k 0))
 
 abbrev μ-loop : tie.MeasureT-loop
-μ-loop count a sum₀ done₀ sum done = count - done
+μ-loop a count sum₀ done₀ sum done = count - done
 
 loop-holds : tie.Need-loop-holds Inv-loop μ-loop
 unfolding sumTo
@@ -31,13 +31,13 @@ add-k c = search needs
 mul-sum : tie.Need-mul-sum Inv-loop μ-loop
 mul-sum c = search needs
 
-array-read-sum : tie.Need-array-read-sum Inv-loop μ-loop
-array-read-sum c = search needs
+element-copy-out-sum : tie.Need-element-copy-out-sum Inv-loop μ-loop
+element-copy-out-sum c = search needs
 
 add-sum : tie.Need-add-sum Inv-loop μ-loop
 add-sum c =
-    let k = c .before in
-    let f : ℕ → ℕ = λ p. getD (k .before .args .t1) p 0 in
+    let k = c .before .before in
+    let f : ℕ → ℕ = λ p. getD (k .before .args .a .now) p 0 in
     record { fits = omega (arith, next (k .loop .done) f, sum-mono (k .loop .done + 1) (k .before .args .count) f (omega arith), k .loop .inv .1, k .before .pre .1) }
 
 loop-less : tie.Need-loop-less Inv-loop μ-loop
@@ -45,8 +45,8 @@ loop-less c = search needs
 
 loop-again : tie.Need-loop-again Inv-loop μ-loop
 loop-again c =
-    let k = c .before in
-    (omega arith, omega (arith, next (k .loop .done) (λ (p : ℕ). getD (k .before .args .t1) p 0), k .loop .inv .1))
+    let k = c .before .before in
+    (omega arith, omega (arith, next (k .loop .done) (λ (p : ℕ). getD (k .before .args .a .now) p 0), k .loop .inv .1))
 
 returns : tie.Need-returns Inv-loop μ-loop
 returns c =
@@ -62,7 +62,7 @@ total-spec =
     loop-holds
     add-k
     mul-sum
-    array-read-sum
+    element-copy-out-sum
     add-sum
     loop-less
     loop-again

@@ -29,12 +29,12 @@ too-large-requires-7 c κs = search needs
 returns : tie.Need-returns
 returns c =
     rw (
-      c .before .before .before .before .before .before .too-large .ensures,
-      c .before .before .before .before .before .too-large2 .ensures,
-      c .before .before .before .before .too-large3 .ensures,
-      c .before .before .before .too-large4 .ensures,
-      c .before .before .too-large5 .ensures,
-      c .before .too-large6 .ensures,
+      c .before .before .before .before .before .before .before .before .before .before .before .before .before .before .before .before .before .before .too-large .ensures,
+      c .before .before .before .before .before .before .before .before .before .before .before .before .before .before .before .too-large2 .ensures,
+      c .before .before .before .before .before .before .before .before .before .before .before .before .too-large3 .ensures,
+      c .before .before .before .before .before .before .before .before .before .too-large4 .ensures,
+      c .before .before .before .before .before .before .too-large5 .ensures,
+      c .before .before .before .too-large6 .ensures,
       c .too-large7 .ensures,
     )
 
