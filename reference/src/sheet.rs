@@ -125,48 +125,8 @@ pub fn read_line(bytes: &[u8], fields: &mut Fields) -> Result<Line, Fault> {
 
 /// Reads the field at the start of `bytes`, up to a comma, an LF or the end.
 /// Gives the field and its length.
-///
-/// Every number in any range has at most 13 digits, so the first 16 bytes
-/// nearly always hold the field and the byte that ends it. They are then read
-/// together, without a branch for each digit.
 #[inline]
 fn read_field(bytes: &[u8]) -> (Field, usize) {
-    let Some(chunk) = bytes.first_chunk() else {
-        return read_field_slowly(bytes);
-    };
-    let word = u128::from_le_bytes(*chunk) ^ each_byte(b'0');
-    // Now a digit is a byte of 0 to 9. The high bit of each byte of `others`
-    // tells that it is above 9; the sums cannot carry into the next byte.
-    let high = each_byte(0x80);
-    let others = (((word & !high) + each_byte(0x80 - 10)) | word) & high;
-    let length = others.trailing_zeros() as usize / 8;
-    if length == 0 || length == 16 || !matches!(bytes[length], b',' | b'\n') {
-        return read_field_slowly(bytes);
-    }
-    if bytes[0] == b'0' && length > 1 {
-        return (Field::OTHER, length);
-    }
-    let digits = word << (128 - 8 * length);
-    let value = eight_digits(digits as u64) * 100_000_000 + eight_digits((digits >> 64) as u64);
-    (Field(value), length)
-}
-
-const fn each_byte(byte: u8) -> u128 {
-    u128::from_le_bytes([byte; 16])
-}
-
-/// The number of eight digits, the first digit being the lowest byte. Pairs
-/// of digits, then pairs of those, then the two fours are put together.
-#[inline]
-fn eight_digits(digits: u64) -> u64 {
-    let twos = (digits.wrapping_mul(10) + (digits >> 8)) & 0x00ff_00ff_00ff_00ff;
-    let fours = (twos.wrapping_mul(100) + (twos >> 16)) & 0x0000_ffff_0000_ffff;
-    (fours.wrapping_mul(10_000) + (fours >> 32)) & 0xffff_ffff
-}
-
-/// The same, byte by byte: near the end of the sheet, for a long number and
-/// for what is no number.
-fn read_field_slowly(bytes: &[u8]) -> (Field, usize) {
     let mut value = 0u64;
     let mut length = 0;
     let stop = loop {
