@@ -1,7 +1,7 @@
 // The figures of all processes once every line is booked: document 01, "Attribution", "Goods and precursors" and "The report".
 ghost use mathlib.Core.Path.{_≡_};
 ghost use Prim.Native.Nat.{_≤_, _<_};
-ghost use Rattle.goods.specs.Settling.{PROCESSES, SIZE, figures, pairs, Settleable};
+ghost use Rattle.goods.specs.Settling.{PROCESSES, SIZE, figures, pairs, Settleable, NoFigures};
 ghost use Rattle.closing.specs.Closing.{together, Pooled, Ready, Closed, anyLarge};
 use goods::PAIRS;
 use goods::SIZE;
@@ -30,35 +30,25 @@ pub struct Closing {
     pub total_raised: Grams,
 }
 
-// One kind of grams, direct or indirect: the pools, what is left of each, and all that is left.
-struct Pools {
-    pools: [u64; SIZE],
-    lefts: [u64; SIZE],
-    left: Grams,
-}
-
-// Bought grams are added to the attribution, and the pools settled.
+// One kind of grams, direct or indirect: bought grams are added to the attribution, and the pools settled. The result is all that is left; `pools` and
+// `lefts` hold zeros at entry.
 fn pools_from(
+    pools: &mut [u64; SIZE],
+    lefts: &mut [u64; SIZE],
     attribution: &[u64; SIZE],
     bought: &[u64; SIZE],
     outputs: &[u64; SIZE],
     kilos: &[u64; PAIRS],
     count: usize,
-) -> Pools
+) -> Grams
     requires { ⌜ count ≤ PROCESSES ⌝ }
     requires { ⌜ Settleable count (figures (now outputs)) (pairs (now kilos)) (together (now attribution) (now bought)) ⌝ }
-    ensures { λ r. ⌜ Pooled count (figures (now (outputs .entry))) (pairs (now (kilos .entry))) (together (now (attribution .entry)) (now (bought .entry))) (r .pools) (r .lefts) (r .left .0) ⌝ }
+    requires { ⌜ NoFigures (now pools) × NoFigures (now lefts) ⌝ }
+    ensures { λ r. ⌜ Pooled count (figures (now (outputs .entry))) (pairs (now (kilos .entry))) (together (now (attribution .entry)) (now (bought .entry))) (now (pools .exit)) (now (lefts .exit)) (r .0) ⌝ }
 {
-    let own = add_all(attribution, bought, count);
-    let settled = settle(own, outputs, kilos, count);
-    let pools = settled.pools;
-    let lefts = settled.lefts;
-    let left = total(&lefts, count);
-    Pools {
-        pools: pools,
-        lefts: lefts,
-        left: left,
-    }
+    add_all(pools, attribution, bought, count);
+    settle(pools, lefts, outputs, kilos, count);
+    total(lefts, count)
 }
 
 // Balances are raised to zero before anything bought or taken is added.
@@ -66,30 +56,44 @@ pub fn close(l: Ledger, outputs: &[u64; SIZE], kilos: &[u64; PAIRS], count: usiz
     requires { ⌜ Ready l (now outputs) (now kilos) count ⌝ }
     ensures { λ r. ⌜ Closed l (now (outputs .entry)) (now (kilos .entry)) count r ⌝ }
 {
-    let indirect = l.indirect;
-    let outcome = raise_all(&l.balances, count);
-    let direct = outcome.direct;
-    let raised = outcome.raised;
+    let mut direct: [u64; SIZE] = [0; SIZE];
+    let mut raised: [u64; SIZE] = [0; SIZE];
+    raise_all(&mut direct, &mut raised, &l.balances, count);
     let total_raised = total(&raised, count);
-    let direct_side = pools_from(&direct, &l.bought_direct, outputs, kilos, count);
-    let indirect_side = pools_from(&indirect, &l.bought_indirect, outputs, kilos, count);
-    let direct_pools = direct_side.pools;
-    let indirect_pools = indirect_side.pools;
-    let direct_lefts = direct_side.lefts;
-    let indirect_lefts = indirect_side.lefts;
-    let direct_left = direct_side.left;
-    let indirect_left = indirect_side.left;
-    let left = direct_left.0 + indirect_left.0;
+    let mut direct_pools: [u64; SIZE] = [0; SIZE];
+    let mut direct_lefts: [u64; SIZE] = [0; SIZE];
+    let direct_left = pools_from(
+        &mut direct_pools,
+        &mut direct_lefts,
+        &direct,
+        &l.bought_direct,
+        outputs,
+        kilos,
+        count,
+    );
+    let indirect = l.indirect;
+    let mut indirect_pools: [u64; SIZE] = [0; SIZE];
+    let mut indirect_lefts: [u64; SIZE] = [0; SIZE];
+    let indirect_left = pools_from(
+        &mut indirect_pools,
+        &mut indirect_lefts,
+        &indirect,
+        &l.bought_indirect,
+        outputs,
+        kilos,
+        count,
+    );
+    let left = Grams(direct_left.0 + indirect_left.0);
     Closing {
-        direct: direct,
-        indirect: indirect,
-        raised: raised,
-        direct_pools: direct_pools,
-        indirect_pools: indirect_pools,
-        direct_lefts: direct_lefts,
-        indirect_lefts: indirect_lefts,
-        left: Grams(left),
-        total_raised: total_raised,
+        direct,
+        indirect,
+        raised,
+        direct_pools,
+        indirect_pools,
+        direct_lefts,
+        indirect_lefts,
+        left,
+        total_raised,
     }
 }
 

@@ -2,7 +2,7 @@
 use mathlib.Core.Path.{_≡_}
 use mathlib.Core.List.{List}
 use Prim.Native.Nat.{ℕ, _+_, _*_, _^_, _≤_, _<_}
-use lib.ListN.{length, getD}
+use lib.ListN.{length, getD, replicate}
 use Rattle.quantity.specs.Limits.{limits}
 use Rattle.goods.specs.Sums.{sumTo}
 use Rattle.goods.specs.Goods.{takers, portionOf, left, poolOf, leftOf}
@@ -55,6 +55,10 @@ pub record Settleable (n : ℕ) (output : ℕ → ℕ) (kilos : ℕ → ℕ → 
   pub ahead : (i j : ℕ) → 1 ≤ j → j ≤ i → i ≤ n → kilos i j ≡ 0
   pub within : (i : ℕ) → 1 ≤ i → i ≤ n → sumTo n (kilos i) ≤ output i
   pub total : sumTo n own < 2 ^ 63
+
+-- an array that holds nothing yet
+abbrev pub NoFigures : List ℕ → Type 0
+NoFigures l = l ≡ replicate SIZE 0
 
 -- the pools and what is left of each, in arrays of `size` places; outside 1 .. n pools are the own grams, and nothing is left
 pub record PoolsSettled (size n : ℕ) (output : ℕ → ℕ) (kilos : ℕ → ℕ → ℕ) (own : ℕ → ℕ) (pools lefts : List ℕ) : Type 0 where

@@ -2,7 +2,7 @@
 ghost use mathlib.Core.Path.{_≡_};
 ghost use Prim.Native.Nat.{_≤_};
 ghost use lib.ListN.{length, getD};
-ghost use Rattle.goods.specs.Settling.{PROCESSES, SIZE, figures, pairs, CanPassOn, PassedOn, Settleable, PoolsSettled};
+ghost use Rattle.goods.specs.Settling.{PROCESSES, SIZE, figures, pairs, CanPassOn, PassedOn, Settleable, NoFigures, PoolsSettled};
 use quantity::Grams;
 use quantity::Kilos;
 use quantity::limits::PROCESSES;
@@ -13,12 +13,6 @@ pub const SIZE: usize = PROCESSES + 1;
 
 // Kilograms from process i to process j stand at i * SIZE + j.
 pub const PAIRS: usize = SIZE * SIZE;
-
-// Grams: each process's pool, and what is left of it.
-pub struct Settled {
-    pub pools: [u64; SIZE],
-    pub lefts: [u64; SIZE],
-}
 
 // Process `from` passes portions of its pool on to its takers, by rising number; the result is what is left. In document 01's terms `taken` is
 // C(k−1) and `through` C(k), `given` is ⌊P × C(k−1)/A⌋ and `next` ⌊P × C(k)/A⌋.
@@ -53,28 +47,25 @@ fn pass_on(
     pool - given
 }
 
-// The pools of processes 1 .. count, settled one after the other, and what is left of each. `own` is the attribution of a process and its bought grams.
+// The pools of processes 1 .. count, settled one after the other, and what is left of each. At entry `pools` holds the attribution of each process
+// and its bought grams, and `lefts` zeros.
 pub fn settle(
-    own: [u64; SIZE],
+    pools: &mut [u64; SIZE],
+    lefts: &mut [u64; SIZE],
     outputs: &[u64; SIZE],
     kilos: &[u64; PAIRS],
     count: usize,
-) -> Settled
+)
     requires { ⌜ count ≤ PROCESSES ⌝ }
-    requires { ⌜ Settleable count (figures (now outputs)) (pairs (now kilos)) (figures own) ⌝ }
-    ensures { λ r. ⌜ PoolsSettled SIZE count (figures (now (outputs .entry))) (pairs (now (kilos .entry))) (figures own) (r .pools) (r .lefts) ⌝ }
+    requires { ⌜ Settleable count (figures (now outputs)) (pairs (now kilos)) (figures (now pools)) ⌝ }
+    requires { ⌜ (length (now pools) ≡ SIZE) × NoFigures (now lefts) ⌝ }
+    ensures { λ r. ⌜ PoolsSettled SIZE count (figures (now (outputs .entry))) (pairs (now (kilos .entry))) (figures (now (pools .entry))) (now (pools .exit)) (now (lefts .exit)) ⌝ }
 {
-    let mut pools = own;
-    let mut lefts = [0; SIZE];
     let mut i = 1;
     while i <= count {
         let output = outputs[i];
-        let left = pass_on(&mut pools, output, kilos, i, count);
+        let left = pass_on(pools, output, kilos, i, count);
         lefts[i] = left;
         i += 1;
-    }
-    Settled {
-        pools: pools,
-        lefts: lefts,
     }
 }

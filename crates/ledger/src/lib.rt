@@ -4,7 +4,7 @@ ghost use lib.IntN.{pos, natAbs, _+ℤ_, _-ℤ_};
 ghost use Prim.Native.Nat.{ℕ, _+_, _^_, _≤_, _<_};
 ghost use lib.ListN.{getD};
 ghost use Rattle.goods.specs.Sums.{sumTo};
-ghost use Rattle.goods.specs.Settling.{SIZE};
+ghost use Rattle.goods.specs.Settling.{SIZE, NoFigures};
 ghost use Rattle.ledger.specs.Ledger.{STEP, Room, Small, ledgerOf, chargedAndCredited, booked};
 ghost use Rattle.ledger.specs.Raising.{gramsAdded, raisedToZero};
 ghost use Rattle.ledger.specs.Columns.{Column};
@@ -114,12 +114,6 @@ pub struct Raised {
     pub raised: Grams,
 }
 
-// The same of each process by its number.
-pub struct RaisedAll {
-    pub direct: [u64; SIZE],
-    pub raised: [u64; SIZE],
-}
-
 pub fn raise(balance: SignedGrams) -> Raised
     requires { ⌜ natAbs (balance .0) ≤ 9200000000000000000 ⌝ }
     ensures direct { λ r. ⌜ r .direct .0 ≡ raisedToZero (balance .0) ⌝ }
@@ -138,15 +132,19 @@ pub fn raise(balance: SignedGrams) -> Raised
     }
 }
 
-// Each balance raised to zero.
-pub fn raise_all(balances: &[i64; SIZE], count: usize) -> RaisedAll
+// Each balance raised to zero: the outcomes in `direct` and the grams added in `raised`, which hold zeros at entry.
+pub fn raise_all(
+    direct: &mut [u64; SIZE],
+    raised: &mut [u64; SIZE],
+    balances: &[i64; SIZE],
+    count: usize,
+)
     requires { ⌜ count < SIZE ⌝ }
     requires { ⌜ ((k : ℕ) → natAbs (getD (now balances) k (pos 0)) ≤ 9200000000000000000) ⌝ }
-    ensures direct { λ r. ⌜ Column count (λ k. raisedToZero (getD (now (balances .entry)) k (pos 0))) (r .direct) ⌝ }
-    ensures raised { λ r. ⌜ Column count (λ k. gramsAdded (getD (now (balances .entry)) k (pos 0))) (r .raised) ⌝ }
+    requires { ⌜ NoFigures (now direct) × NoFigures (now raised) ⌝ }
+    ensures direct { λ r. ⌜ Column count (λ k. raisedToZero (getD (now (balances .entry)) k (pos 0))) (now (direct .exit)) ⌝ }
+    ensures raised { λ r. ⌜ Column count (λ k. gramsAdded (getD (now (balances .entry)) k (pos 0))) (now (raised .exit)) ⌝ }
 {
-    let mut direct: [u64; SIZE] = [0; SIZE];
-    let mut raised: [u64; SIZE] = [0; SIZE];
     let mut done: usize = 0;
     while done < count {
         let k = done + 1;
@@ -156,26 +154,21 @@ pub fn raise_all(balances: &[i64; SIZE], count: usize) -> RaisedAll
         raised[k] = r.raised.0;
         done = k;
     }
-    RaisedAll {
-        direct: direct,
-        raised: raised,
-    }
 }
 
-// Two figures of each process together.
-pub fn add_all(a: &[u64; SIZE], b: &[u64; SIZE], count: usize) -> [u64; SIZE]
+// Two figures of each process together, in `both`, which holds zeros at entry.
+pub fn add_all(both: &mut [u64; SIZE], a: &[u64; SIZE], b: &[u64; SIZE], count: usize)
     requires { ⌜ count < SIZE ⌝ }
     requires { ⌜ ((k : ℕ) → 1 ≤ k → k ≤ count → getD (now a) k 0 + getD (now b) k 0 < 2 ^ 64) ⌝ }
-    ensures { λ r. ⌜ Column count (λ k. getD (now (a .entry)) k 0 + getD (now (b .entry)) k 0) r ⌝ }
+    requires { ⌜ NoFigures (now both) ⌝ }
+    ensures { λ r. ⌜ Column count (λ k. getD (now (a .entry)) k 0 + getD (now (b .entry)) k 0) (now (both .exit)) ⌝ }
 {
-    let mut both: [u64; SIZE] = [0; SIZE];
     let mut done: usize = 0;
     while done < count {
         let k = done + 1;
         both[k] = a[k] + b[k];
         done = k;
     }
-    both
 }
 
 // The figures of all processes together.

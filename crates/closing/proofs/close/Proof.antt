@@ -19,31 +19,34 @@ indirect-size c = search needs
 -- balances are raised
 module _ (c : tie.After-raise-all) where
   abbrev start : tie.Start
-  start = c .before .before .before .before
+  start = c .before .before .before .before .before
 
   own-is : (k : ℕ) → 1 ≤ k → k ≤ start .args .count
-      → together (c .raise-all .result .direct) (start .args .t1 .«bought_direct») k ≡ ownDirect (start .args .t1) k
+      → together (c .raise-all .last .0) (start .args .t1 .«bought_direct») k ≡ ownDirect (start .args .t1) k
   own-is k l h = ap (λ (n : ℕ). n + getD (start .args .t1 .«bought_direct») k 0) (c .raise-all .ensures .0 .at k l h)
 
 -- pools of both kinds are settled
 module _ (c : tie.After-pools-from2) where
   abbrev raised : tie.After-raise-all
-  raised = c .before .before .before .before .before .before .before .before .before .before .before .before
+  raised = c .before .before .before .before .before .before .before .before .before .before .before .before .before .before .before
+
+  abbrev first : tie.After-pools-from
+  first = c .before .before .before .before .before .before .before
 
   abbrev PooledOver : (own : ℕ → ℕ) → (pools lefts : List ℕ) → (left : ℕ) → Type 0
   PooledOver =
       let a = start raised .args in
       Pooled (a .count) (figures (now (a .outputs))) (pairs (now (a .kilos)))
 
-  direct-pooled : PooledOver (ownDirect (start raised .args .t1)) (c .before .before .before .before .pools-from .result .pools) (c .before .before .before .before .pools-from .result .lefts)
-      (c .before .before .before .before .pools-from .result .left .0)
-  direct-pooled = pooled-cong (own-is raised) (c .before .before .before .before .pools-from .ensures)
+  direct-pooled : PooledOver (ownDirect (start raised .args .t1)) (first .pools-from .last .0) (first .pools-from .last .1 .0)
+      (first .pools-from .result .0)
+  direct-pooled = pooled-cong (own-is raised) (first .pools-from .ensures)
 
-  indirect-pooled : PooledOver (ownIndirect (start raised .args .t1)) (c .pools-from2 .result .pools) (c .pools-from2 .result .lefts)
-      (c .pools-from2 .result .left .0)
+  indirect-pooled : PooledOver (ownIndirect (start raised .args .t1)) (c .pools-from2 .last .0) (c .pools-from2 .last .1 .0)
+      (c .pools-from2 .result .0)
   indirect-pooled = c .pools-from2 .ensures
 
-  left-fits : c .before .before .before .before .pools-from .result .left .0 + c .pools-from2 .result .left .0 < 2 ^ 63
+  left-fits : first .pools-from .result .0 + c .pools-from2 .result .0 < 2 ^ 63
   left-fits = omega (arith, start raised .pre .own, direct-pooled .kept, indirect-pooled .kept)
 
 raise-all-requires : tie.Need-raise-all-requires
@@ -51,23 +54,25 @@ raise-all-requires c κs = search needs
 
 total-requires : tie.Need-total-requires
 total-requires c κs =
-    let k = c .before .before .before in
+    let k = c .before in
     (omega (arith, start k .pre .few), subst (λ (n : ℕ). n < 2 ^ 63) (sym (sum-cong _ _ _ (k .raise-all .ensures .1 .at))) (start k .pre .raised))
 
 pools-from-requires : tie.Need-pools-from-requires
 pools-from-requires c κs =
     let k = c .before .before .before .before .before .before .before in
-    (start k .pre .few, settleable-cong (λ n l h. sym (own-is k n l h)) (start k .pre .direct))
+    (start k .pre .few, (settleable-cong (λ n l h. sym (own-is k n l h)) (start k .pre .direct), (refl, refl)))
 
 pools-from-requires-2 : tie.Need-pools-from-requires-2
-pools-from-requires-2 c κs = search needs
+pools-from-requires-2 c κs =
+    let k = c .before .before .before .before .before .before .before .before .before .before .before .before .before .before in
+    (start k .pre .few, (start k .pre .indirect, (refl, refl)))
 
-add-left : tie.Need-add-left
-add-left c = record { fits = omega (arith, left-fits (c .before .before .before .before .before .before .before .before)) }
+add-t31 : tie.Need-add-t31
+add-t31 c = record { fits = omega (arith, left-fits (c .before .before)) }
 
 returns : tie.Need-returns
 returns c =
-    let h = c .before .before .before .before .before .before .before .before in
+    let h = c .before .before in
     let r = raised h in
     let d = direct-pooled h in
     let i = indirect-pooled h in
@@ -81,7 +86,7 @@ returns c =
       indirect-lefts = i .rest;
       left = ap₂ (λ (direct indirect : ℕ). direct + indirect) (d .all) (i .all);
       left-small = left-fits h;
-      total-raised = h .before .before .before .before .before .before .before .before .total .ensures ∙ sum-cong _ _ _ (r .raise-all .ensures .1 .at);
+      total-raised = h .before .before .before .before .before .before .before .before .before .before .before .before .before .total .ensures ∙ sum-cong _ _ _ (r .raise-all .ensures .1 .at);
     }
 
 pub close-spec : {M : Type 1} → statement M
@@ -92,5 +97,5 @@ close-spec =
     total-requires
     pools-from-requires
     pools-from-requires-2
-    add-left
+    add-t31
     returns)

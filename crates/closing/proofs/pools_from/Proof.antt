@@ -12,30 +12,35 @@ use Rattle.closing.proofs.pools_from.Tie as tie
 
 -- the array of own grams
 module _ (c : tie.After-add-all) where
-  abbrev own : ℕ → ℕ
-  own = figures (c .add-all .result)
+  abbrev start : tie.Start
+  start = c .before .before
 
-  own-is : (k : ℕ) → 1 ≤ k → k ≤ c .before .args .count → own k ≡ together (now (c .before .args .attribution)) (now (c .before .args .bought)) k
+  abbrev own : ℕ → ℕ
+  own = figures (c .add-all .last .0)
+
+  own-is : (k : ℕ) → 1 ≤ k → k ≤ start .args .count → own k ≡ together (now (start .args .attribution)) (now (start .args .bought)) k
   own-is = c .add-all .ensures .at
 
-  settleable : Settleable (c .before .args .count) (figures (now (c .before .args .outputs))) (pairs (now (c .before .args .kilos))) own
-  settleable = settleable-cong (λ k l h. sym (own-is k l h)) (c .before .pre .1)
+  settleable : Settleable (start .args .count) (figures (now (start .args .outputs))) (pairs (now (start .args .kilos))) own
+  settleable = settleable-cong (λ k l h. sym (own-is k l h)) (start .pre .1 .0)
 
 add-all-requires : tie.Need-add-all-requires
-add-all-requires c κs = (omega (arith, c .pre .0), own-fits (c .pre .1))
+add-all-requires c κs = let s = c .before in (omega (arith, s .pre .0), (own-fits (s .pre .1 .0), s .pre .1 .1 .0))
 
 settle-requires : tie.Need-settle-requires
-settle-requires c κs = (c .before .pre .0, settleable c)
+settle-requires c κs =
+    let k = c .before .before in
+    (start k .pre .0, (settleable k, (k .add-all .ensures .size, start k .pre .1 .1 .1)))
 
 total-requires : tie.Need-total-requires
 total-requires c κs =
     let k = c .before .before .before .before in
-    (omega (arith, k .before .pre .0), left-small (settleable k) (c .before .before .before .settle .ensures))
+    (omega (arith, start k .pre .0), left-small (settleable k) (c .before .settle .ensures))
 
 returns : tie.Need-returns
 returns c =
     let k = c .before .before .before .before .before in
-    pooled-cong (own-is k) (pooled (settleable k) (c .before .before .before .before .settle .ensures) (c .total .ensures))
+    pooled-cong (own-is k) (pooled (settleable k) (c .before .before .settle .ensures) (c .total .ensures))
 
 pub pools-from-spec : {M : Type 1} → statement M
 pools-from-spec = tie.close (tie.spec add-all-requires settle-requires total-requires returns)

@@ -10,14 +10,15 @@ use Rattle.goods.proofs.settle.Statement.{statement}
 use Rattle.goods.proofs.settle.Tie as tie
 
 abbrev Inv-loop : tie.InvT-loop
-Inv-loop outputs kilos count pools₀ lefts₀ i₀ pools lefts i =
+Inv-loop pools₀ lefts₀ outputs kilos count i₀ pools lefts i =
     (1 ≤ i) × (i ≤ count + 1) × (Settling count (figures outputs) (pairs kilos) (figures pools₀) SIZE (i - 1) pools lefts)
 
 abbrev μ-loop : tie.MeasureT-loop
-μ-loop outputs kilos count pools₀ lefts₀ i₀ pools lefts i = count + 1 - i
+μ-loop pools₀ lefts₀ outputs kilos count i₀ pools lefts i = count + 1 - i
 
 loop-holds : tie.Need-loop-holds Inv-loop μ-loop
-loop-holds c = (omega arith, omega arith, settling-none _ _ _ _ SIZE (c .args .own) (search needs) (λ k. refl))
+loop-holds c =
+    (omega arith, omega arith, rw (c .pre .1 .1 .1) (settling-none _ _ _ _ SIZE (c .args .pools .now) (c .pre .1 .1 .0) (λ k. refl)))
 
 mul-output : tie.Need-mul-output Inv-loop μ-loop
 mul-output c = omega arith
@@ -29,14 +30,14 @@ pass-on-requires : tie.Need-pass-on-requires Inv-loop μ-loop
 pass-on-requires c κs =
     let h = c .before .before .before in (
       (omega arith, h .before .pre .0),
-      (h .loop .inv .2 .pools-size, settling-can (h .before .pre .1) (h .loop .inv .2) (omega arith) (omega arith)),
+      (h .loop .inv .2 .pools-size, settling-can (h .before .pre .1 .0) (h .loop .inv .2) (omega arith) (omega arith)),
     )
 
 mul-lefts : tie.Need-mul-lefts Inv-loop μ-loop
 mul-lefts c = omega arith
 
-array-write-lefts : tie.Need-array-write-lefts Inv-loop μ-loop
-array-write-lefts c = omega arith
+element-write-lefts : tie.Need-element-write-lefts Inv-loop μ-loop
+element-write-lefts c = omega arith
 
 add-i : tie.Need-add-i Inv-loop μ-loop
 add-i c = omega arith
@@ -48,10 +49,10 @@ loop-again : tie.Need-loop-again Inv-loop μ-loop
 loop-again c =
     let h = c .before .before .before .before in
     let e : h .loop .i + 1 - 1 ≡ h .loop .i = omega arith in
-    (omega arith, omega arith, rw e (settling-next (h .before .pre .1) (h .loop .inv .2) (omega arith) (omega arith) (omega arith) (c .pass-on .ensures)))
+    (omega arith, omega arith, rw e (settling-next (h .before .pre .1 .0) (h .loop .inv .2) (omega arith) (omega arith) (omega arith) (c .pass-on .ensures)))
 
 returns : tie.Need-returns Inv-loop μ-loop
-returns c = let h = c .before in settling-all (h .before .pre .1) (h .loop .inv .2) (omega arith)
+returns c = let h = c .before in settling-all (h .before .pre .1 .0) (h .loop .inv .2) (omega arith)
 
 pub settle-spec : {M : Type 1} → statement M
 settle-spec =
@@ -64,7 +65,7 @@ settle-spec =
     element-copy-out-output
     pass-on-requires
     mul-lefts
-    array-write-lefts
+    element-write-lefts
     add-i
     loop-less
     loop-again

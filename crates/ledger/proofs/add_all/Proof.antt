@@ -10,14 +10,13 @@ use Rattle.ledger.proofs.add_all.Statement.{statement}
 use Rattle.ledger.proofs.add_all.Tie as tie
 
 abbrev Inv-loop : tie.InvT-loop
-Inv-loop a b count both₀ done₀ both done =
-    (done ≤ count) × (Column done (λ k. getD a k 0 + getD b k 0) both)
+Inv-loop both₀ a b count done₀ both done = (done ≤ count) × (Column done (λ k. getD a k 0 + getD b k 0) both)
 
 abbrev μ-loop : tie.MeasureT-loop
-μ-loop a b count both₀ done₀ both done = count - done
+μ-loop both₀ a b count done₀ both done = count - done
 
 loop-holds : tie.Need-loop-holds Inv-loop μ-loop
-loop-holds c = (omega arith, column-none _)
+loop-holds c = (omega arith, rw (c .pre .1 .1) (column-none _))
 
 add-k : tie.Need-add-k Inv-loop μ-loop
 add-k c = search needs
@@ -35,13 +34,13 @@ element-copy-out-both-2 : tie.Need-element-copy-out-both-2 Inv-loop μ-loop
 element-copy-out-both-2 c = search needs
 
 add-both : tie.Need-add-both Inv-loop μ-loop
-add-both c = record { fits = c .before .before .before .before .pre .1 (c .before .before .before .loop .done + 1) (omega arith) (omega arith) }
+add-both c = record { fits = c .before .before .before .before .pre .1 .0 (c .before .before .before .loop .done + 1) (omega arith) (omega arith) }
 
 mul-both-3 : tie.Need-mul-both-3 Inv-loop μ-loop
 mul-both-3 c = search needs
 
-array-write-both : tie.Need-array-write-both Inv-loop μ-loop
-array-write-both c = search needs
+element-write-both : tie.Need-element-write-both Inv-loop μ-loop
+element-write-both c = search needs
 
 loop-less : tie.Need-loop-less Inv-loop μ-loop
 loop-less c = search needs
@@ -68,7 +67,7 @@ add-all-spec =
     element-copy-out-both-2
     add-both
     mul-both-3
-    array-write-both
+    element-write-both
     loop-less
     loop-again
     returns)

@@ -15,20 +15,20 @@ use Rattle.ledger.proofs.raise_all.Statement.{statement}
 use Rattle.ledger.proofs.raise_all.Tie as tie
 
 abbrev Inv-loop : tie.InvT-loop
-Inv-loop balances count direct₀ raised₀ done₀ direct raised done =
+Inv-loop direct₀ raised₀ balances count done₀ direct raised done =
     (done ≤ count)
     × (Column done (λ k. raisedToZero (getD balances k (pos 0))) direct)
     × (Column done (λ k. gramsAdded (getD balances k (pos 0))) raised)
 
 abbrev μ-loop : tie.MeasureT-loop
-μ-loop balances count direct₀ raised₀ done₀ direct raised done = count - done
+μ-loop direct₀ raised₀ balances count done₀ direct raised done = count - done
 
 -- a balance, which fits
 fits : (c : tie.Start Inv-loop μ-loop) (k : ℕ) → toZ w64 (ofZ w64 (getD (c .args .balances .now) k (pos 0))) ≡ getD (c .args .balances .now) k (pos 0)
-fits c k = kept (getD (c .args .balances .now) k (pos 0)) (omega (arith, c .pre .1 k))
+fits c k = kept (getD (c .args .balances .now) k (pos 0)) (omega (arith, c .pre .1 .0 k))
 
 loop-holds : tie.Need-loop-holds Inv-loop μ-loop
-loop-holds c = (omega arith, column-none _, column-none _)
+loop-holds c = rw (c .pre .1 .1 .0, c .pre .1 .1 .1) (omega arith, column-none _, column-none _)
 
 add-k : tie.Need-add-k Inv-loop μ-loop
 add-k c = search needs
@@ -42,19 +42,19 @@ element-copy-out-balance c = search needs
 raise-requires : tie.Need-raise-requires Inv-loop μ-loop
 raise-requires c κs =
     let k = c .before .before in
-    rw (fits (k .before) (k .loop .done + 1)) (k .before .pre .1 (k .loop .done + 1))
+    rw (fits (k .before) (k .loop .done + 1)) (k .before .pre .1 .0 (k .loop .done + 1))
 
 mul-direct : tie.Need-mul-direct Inv-loop μ-loop
 mul-direct c = search needs
 
-array-write-direct : tie.Need-array-write-direct Inv-loop μ-loop
-array-write-direct c = search needs
+element-write-direct : tie.Need-element-write-direct Inv-loop μ-loop
+element-write-direct c = search needs
 
 mul-raised : tie.Need-mul-raised Inv-loop μ-loop
 mul-raised c = search needs
 
-array-write-raised : tie.Need-array-write-raised Inv-loop μ-loop
-array-write-raised c = search needs
+element-write-raised : tie.Need-element-write-raised Inv-loop μ-loop
+element-write-raised c = search needs
 
 loop-less : tie.Need-loop-less Inv-loop μ-loop
 loop-less c = search needs
@@ -82,9 +82,9 @@ raise-all-spec =
     element-copy-out-balance
     raise-requires
     mul-direct
-    array-write-direct
+    element-write-direct
     mul-raised
-    array-write-raised
+    element-write-raised
     loop-less
     loop-again
     returns)
