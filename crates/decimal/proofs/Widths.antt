@@ -25,3 +25,6 @@ length-at-most (suc k) n h =
 
 pub twenty : (n : ℕ) → n < 2 ^ 64 → length (spelling n) ≤ 20
 twenty n h = length-at-most 19 n (let p : n < 10 ^ 20 = omega arith in p)
+
+pub nineteen : (n : ℕ) → n < 2 ^ 63 → length (spelling n) ≤ 19
+nineteen n h = length-at-most 18 n (let p : n < 10 ^ 19 = omega arith in p)

@@ -12,16 +12,18 @@ use Rattle.decimal.proofs.Writing.{start-bytes, start-place}
 use Rattle.lines.specs.Records.{Record, recordsOf}
 use Rattle.sheet.specs.Verdict.{Check, check, Verdict, accepted, refused, firstOf}
 use Rattle.sheet.specs.Code.{refusalNumber}
+use Rattle.sheet.proofs.First.{accepted-passes}
 use Rattle.attribution.specs.Reckoning as attribution
 use Rattle.attribution.specs.Verdict.{reckonerChecks}
 use Rattle.report.specs.Report.{reportOf}
 use Rattle.report.specs.Spelling.{reportBytes}
-use Rattle.report.specs.Outcome.{sheetReport, spaceTooShort, allChecks, verdict, outcomeOf, outcome, printed, carbon}
+use Rattle.report.specs.Outcome.{sheetReport, spaceTooShort, allChecks, verdict, outcomeOf, Outcome, outcome, printed, carbon}
+use Rattle.report.proofs.Longest.{report-most, never-short}
 use Rattle.reckoner.specs.Reckoned.{FiguresOf, Reckoned}
 use Rattle.reckoner.specs.declared.Reckoning.{Reckoning}
 use Rattle.reckoner.proofs.AllLines.{first-rest, first-here}
 use Rattle.reckoner.proofs.Answer.{numbered}
-use Rattle.writer.specs.Held.{Sound, rowHeld, rowsHeld, reckoningHeld, bytesHeld}
+use Rattle.writer.specs.Held.{LONGEST, Sound, rowHeld, rowsHeld, reckoningHeld, bytesHeld}
 
 -- ---- the figures of an accepted sheet
 
@@ -87,6 +89,10 @@ module _ (sheet space : List ℕ) (r : Reckoning) (h : Reckoned sheet r) where
     unfolding bytesHeld sheetReport
     bytes-are = ap (λ (q : attribution.Reckoning). reportBytes (reportOf q)) (reckoning-is (recordsOf sheet) r (h .figured zero-number))
 
+    pub report-short : length (bytesHeld r) ≤ LONGEST
+    report-short =
+        omega (arith, ap length bytes-are, report-most limits (omega arith) sheet (accepted-passes (reckonerChecks limits sheet) (h .passed zero-number)))
+
     pub printed-report : carbon limits sheet ≡ bytesHeld r
     unfolding carbon
     printed-report = ap (λ (v : Verdict). printed v (sheetReport sheet)) (h .passed zero-number) ∙ sym bytes-are
@@ -110,3 +116,8 @@ module _ (sheet space : List ℕ) (r : Reckoning) (h : Reckoned sheet r) where
         let q = le-ltb (length space) (length (sheetReport sheet)) (let z : length (sheetReport sheet) ≤ length space = omega arith in z) in
         let v : firstOf last ≡ accepted = rw q in
         rw (start-place w, start-bytes w, bytes-are) (sym (ap (λ (v : Verdict). outcomeOf v (sheetReport sheet) space) (passes ∙ v)))
+
+-- ---- 16 is not given to a space of LONGEST bytes
+
+pub roomy : (sheet space : List ℕ) (given : Outcome) → given ≡ outcome limits sheet space → LONGEST ≤ length space → given .number ≡ 16 → ⊥
+roomy sheet space given e h n = never-short limits (omega arith) sheet space h (sym (ap (λ (o : Outcome). o .number) e) ∙ n)

@@ -1,21 +1,22 @@
 -- The report of what the reckoner gives, in the report's definitions. Laws join it to the report of the sheet.
 use mathlib.Core.List.{List, [], _∷_, _++_, map}
-use Prim.Native.Nat.{ℕ, zero, suc, _+_, _*_, _^_, _≤_, _<_}
+use Prim.Native.Nat.{ℕ, zero, suc, _^_, _≤_, _<_}
 use lib.IntN.{natAbs}
 use lib.ListN.{getD}
 use Rattle.quantity.specs.Limits.{limits}
 use Rattle.goods.specs.Settling.{SIZE}
 use Rattle.attribution.specs.Reckoning as attribution
 use Rattle.report.specs.Report.{reportRow, reportOf}
+use Rattle.report.specs.Outcome.{longest}
 use Rattle.report.specs.Spelling.{rowLine, totalLine, spellLines, reportBytes}
-use Rattle.figures.specs.Figures.{FIELDS, held}
+use Rattle.figures.specs.Figures.{held}
 use Rattle.figures.specs.declared.Figure.{Figure}
 use Rattle.reckoner.specs.Works.{MOST}
 use Rattle.reckoner.specs.declared.Reckoning.{Reckoning}
 
--- no report has more bytes: a line has at most 25 for each field, and its letter and LF
+-- no report has more bytes
 abbrev pub LONGEST : ℕ
-LONGEST = (25 * FIELDS + 2) * limits .processes + 25 * 4 + 2
+LONGEST = longest limits
 
 -- what the writer asks of a reckoning
 pub record Sound (r : Reckoning) : Type 0 where

@@ -31,8 +31,8 @@ use sheet::refusals::refusal_number;
 // As many fields as the last line has behind its letter.
 const TOTALS: usize = 4;
 
-// No report has more bytes, and no refusal.
-pub const LONGEST: usize = (25 * FIELDS + 2) * PROCESSES + 25 * TOTALS + 2;
+// No report has more bytes, and no refusal printed.
+pub const LONGEST: usize = 210 * PROCESSES + 83;
 
 // Specific embedded emissions: pool/output in g/kg, three digits after the dot, cut down.
 fn specific_figure(pool: Grams, output: Kilos) -> Figure
@@ -97,7 +97,6 @@ fn total_fields(r: Reckoning) -> [Figure; FIELDS]
 fn report_width(r: Reckoning) -> usize
     requires { ⌜ Sound r ⌝ }
     ensures { λ n. ⌜ n ≡ length (bytesHeld r) ⌝ }
-    ensures bounded { λ n. ⌜ n ≤ LONGEST ⌝ }
 {
     let mut sum = line_width(total_fields(r), TOTALS);
     let mut k: usize = 0;
@@ -155,7 +154,6 @@ pub fn print(sheet: &[u8], space: &mut [u8]) -> usize
     if number != 0 {
         return put_refusal(space, number, r.line);
     }
-    let width = report_width(r);
     put_report(space, r)
 }
 
@@ -166,9 +164,11 @@ pub struct Answer {
     pub length: usize,
 }
 
-// The report of a sheet at the start of the lent space; a refused sheet leaves the space as it was.
+// The report of a sheet at the start of the lent space; a refused sheet leaves the space as it was. A space of LONGEST bytes is never too
+// short.
 pub fn report(sheet: &[u8], space: &mut [u8]) -> Answer
     ensures { λ a. ⌜ gives a (now (space .exit)) ≡ outcome limits (now (sheet .entry)) (now (space .entry)) ⌝ }
+    ensures roomy { λ a. ⌜ (LONGEST ≤ length (now (space .entry)) → a .number ≡ 16 → ⊥) ⌝ }
 {
     let r = reckon(sheet);
     let refusal = r.refusal;

@@ -65,7 +65,7 @@ returns c =
     let k = c .before .before in
     let r = k .before .before .before .args .r in
     let e : k .loop .k ≡ r .count = omega arith in
-    (omega (arith, report-long r, ap (λ (n : ℕ). length (rowsBytes r n)) e), omega (arith, k .before .before .before .pre .few))
+    omega (arith, report-long r, ap (λ (n : ℕ). length (rowsBytes r n)) e)
 
 pub report-width-spec : {M : Type 1} → statement M
 report-width-spec =
