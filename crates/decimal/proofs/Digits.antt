@@ -2,9 +2,8 @@
 use mathlib.Core.Path.{_≡_, refl, sym, ap, _∙_}
 use mathlib.Core.List.{List, [], _∷_, _++_, append-assoc, append-nil}
 use Prim.Native.Nat.{ℕ, suc, _+_, _-_, _/_, _%_, _≤_, _<_}
-use native.Mathlib.Nat.{add-zero}
 use native.Mathlib.Omega.{arith}
-use lib.ListN.{length, take, drop, set, length-append, take-append-drop}
+use lib.ListN.{length, set, length-append}
 use Rattle.decimal.specs.Spelling.{spelling}
 use Rattle.decimal.specs.Writing.{written, Put}
 use Rattle.decimal.proofs.Spelling.{spell-one, spell-more, spelling-some}

@@ -6,23 +6,12 @@ use native.Mathlib.Nat.{add-zero, zero-add}
 use native.Mathlib.Numerals.{add-one}
 use native.Mathlib.Omega.{arith}
 use lib.ListN.{length, take, drop, set, getD, length-append, length-drop, take-append-drop}
-use lib.Seq.{take-suc, set-split, set-at, drop-cons, length-take-le, take-at, drop-append-add, drop-drop}
+use lib.Seq.{take-suc, set-split, set-at, length-take-le, take-at, drop-append-add, drop-drop}
 use Rattle.decimal.specs.Writing.{written, Put}
 
 pub written-one : (l : List ℕ) (at x : ℕ) → at < length l → set l at x ≡ written l at (x ∷ [])
 unfolding written
 written-one l at x h = rw (set-split l at x h, add-one)
-
-pub written-more : (l : List ℕ) (at : ℕ) (xs : List ℕ) (x : ℕ) → at + length xs < length l
-    → set (written l at xs) (at + length xs) x ≡ written l at (xs ++ (x ∷ []))
-unfolding written
-written-more l at xs x h =
-    let k : ℕ = at + length xs in
-    let e : drop k l ≡ getD l k 0 ∷ drop (suc k) l = drop-cons l k 0 h in
-    let n : length (take at l ++ xs) ≡ k = simp (length-append, length-take-le at l (let p : at ≤ length l = omega arith in p)) in
-    let s : at + (length xs + 1) ≡ suc k = omega arith in
-    rw (e, ← append-assoc (take at l) xs, set-at (take at l ++ xs) (getD l k 0) (drop (suc k) l) x k n)
-    (simp (length-append, append-assoc, s))
 
 -- one byte before bytes written
 pub written-before : (l : List ℕ) (at x : ℕ) (xs : List ℕ) → at < length l → set (written l (suc at) xs) at x ≡ written l at (x ∷ xs)

@@ -17,13 +17,13 @@ use Rattle.lines.specs.Lines.{Line, linesOf}
 use Rattle.lines.specs.Records.{Record, recordOf, recordsOf, is}
 use Rattle.lines.specs.declared.Kind.the-variants.{Process}
 use Rattle.sheet.specs.Refusals.{sumOf}
-use Rattle.sheet.specs.Verdict.{check, lineChecks, linesChecks, sheetChecks}
+use Rattle.sheet.specs.Verdict.{lineChecks, linesChecks, sheetChecks}
 use Rattle.sheet.proofs.First.{All, all-append, Passes, passes-accepted}
 use Rattle.sheet.proofs.Held.{Held, held-none, held-next, processesAfter}
 use Rattle.attribution.specs.Reckoning.{Row, Totals, processCount, rowOf, rowsTo, reckoning}
 use Rattle.attribution.specs.Verdict.{rowGrams, totalGrams, rowsGrams, anyFrom, figureTooLarge, reckonerChecks}
 use Rattle.report.specs.Report.{specific, reportRow, reportOf}
-use Rattle.report.specs.Spelling.{Figure, whole, minus, thousandths, signed, threeDigits, spellFigure, spellFigures, ReportLine, spellLines, rowLine, totalLine, reportBytes}
+use Rattle.report.specs.Spelling.{Figure, whole, thousandths, signed, threeDigits, spellFigure, spellFigures, ReportLine, spellLines, rowLine, totalLine, reportBytes}
 use Rattle.report.specs.Outcome.{longest, sheetReport, outcome}
 use Rattle.report.proofs.Low.{all-join, short-only}
 

@@ -5,7 +5,8 @@ use Prim.Native.Nat.{ℕ, zero, suc, _≤_, _<_}
 use native.Mathlib.Omega.{arith}
 use native.Mathlib.Nat.{le-refl}
 use borrow.Author.Tests.{lt-ltb, le-ltb}
-use lib.ListN.{length}
+use lib.ListN.{length, take, drop}
+use lib.Seq.{take-at}
 use Rattle.quantity.specs.Limits.{limits}
 use Rattle.decimal.specs.Writing.{Put}
 use Rattle.decimal.proofs.Writing.{start-bytes, start-place}
@@ -23,6 +24,7 @@ use Rattle.reckoner.specs.Reckoned.{FiguresOf, Reckoned}
 use Rattle.reckoner.specs.declared.Reckoning.{Reckoning}
 use Rattle.reckoner.proofs.AllLines.{first-rest, first-here}
 use Rattle.reckoner.proofs.Answer.{numbered}
+use Rattle.writer.specs.Given.{outcomeWithin}
 use Rattle.writer.specs.Held.{LONGEST, Sound, rowHeld, rowsHeld, reckoningHeld, bytesHeld}
 
 -- ---- the figures of an accepted sheet
@@ -63,6 +65,24 @@ module _ (rs : List Record) (r : Reckoning) (f : FiguresOf rs r) where
   reckoning-is =
       rw (rows-are (r .count) (le-refl (r .count)), f .counted, f .left-is, f .entered-is, f .raised-is, f .uncredited-is)
 
+-- ---- row 16
+
+pub short-within : (report space : List ℕ) → length space < length report
+    → record { number = 16; line = 0; length = 0; space = space } ≡ outcomeWithin report space
+unfolding firstOf
+short-within report space h = rw (lt-ltb (length space) (length report) h)
+
+pub written-within : (report space : List ℕ) {after : List ℕ} {n : ℕ} → length report ≤ length space → Put space 0 report after n
+    → record { number = 0; line = 0; length = n; space = after } ≡ outcomeWithin report space
+unfolding firstOf
+written-within report space h w = rw (le-ltb (length space) (length report) h, start-place w, start-bytes w)
+
+-- bytes put at the start of a space are its first, and so are copied from there
+pub copied : {l report bytes space after : List ℕ} {n : ℕ} → Put l 0 report bytes n → Put space 0 (take n bytes) after n → Put space 0 report after n
+copied {l} {report} {bytes} {n = n} w p =
+    let first : take n bytes ≡ report = ap (take n) (start-bytes w) ∙ take-at report (drop (length report) l) n (sym (start-place w)) in
+    rw first at p
+
 -- ---- number, line, length and every byte
 
 module _ (sheet space : List ℕ) (r : Reckoning) (h : Reckoned sheet r) where
@@ -100,22 +120,11 @@ module _ (sheet space : List ℕ) (r : Reckoning) (h : Reckoned sheet r) where
     passes : firstOf (reckonerChecks limits sheet ++ last) ≡ firstOf last
     passes = first-rest (reckonerChecks limits sheet) last (h .passed zero-number)
 
-    pub short-outcome : length space < length (bytesHeld r) → record { number = 16; line = 0; length = 0; space = space } ≡ outcome limits sheet space
-    unfolding outcome verdict allChecks firstOf
-    short-outcome p =
-        let e = ap length bytes-are in
-        let q = lt-ltb (length space) (length (sheetReport sheet)) (let z : length space < length (sheetReport sheet) = omega arith in z) in
-        let v : firstOf last ≡ refused 16 0 = rw q in
-        sym (ap (λ (v : Verdict). outcomeOf v (sheetReport sheet) space) (passes ∙ v))
-
-    pub written-outcome : {after : List ℕ} {n : ℕ} → length (bytesHeld r) ≤ length space → Put space 0 (bytesHeld r) after n
-        → record { number = 0; line = 0; length = n; space = after } ≡ outcome limits sheet space
-    unfolding outcome verdict allChecks firstOf
-    written-outcome {after} {n} p w =
-        let e = ap length bytes-are in
-        let q = le-ltb (length space) (length (sheetReport sheet)) (let z : length (sheetReport sheet) ≤ length space = omega arith in z) in
-        let v : firstOf last ≡ accepted = rw q in
-        rw (start-place w, start-bytes w, bytes-are) (sym (ap (λ (v : Verdict). outcomeOf v (sheetReport sheet) space) (passes ∙ v)))
+    -- row 16 is left to judge
+    pub accepted-within : outcomeWithin (bytesHeld r) space ≡ outcome limits sheet space
+    unfolding outcome verdict allChecks
+    accepted-within =
+        ap (λ (report : List ℕ). outcomeWithin report space) bytes-are ∙ sym (ap (λ (v : Verdict). outcomeOf v (sheetReport sheet) space) passes)
 
 -- ---- 16 is not given to a space of LONGEST bytes
 

@@ -13,6 +13,7 @@ use Rattle.figures.specs.Figures.{held}
 use Rattle.figures.specs.declared.Figure.{Figure}
 use Rattle.reckoner.specs.Works.{MOST}
 use Rattle.reckoner.specs.declared.Reckoning.{Reckoning}
+use Rattle.writer.specs.declared.Row.{Row}
 
 -- no report has more bytes
 abbrev pub LONGEST : ℕ
@@ -55,9 +56,26 @@ rowsHeld r (suc k) = rowsHeld r k ++ (rowHeld r (suc k) ∷ [])
 unfoldable pub reckoningHeld : Reckoning → attribution.Reckoning
 reckoningHeld r = record { rows = rowsHeld r (r .count); totals = totalsHeld r }
 
+-- a process's figures as the code passes them on
+abbrev pub rowSaid : Row → attribution.Row
+rowSaid row = record {
+  process = row .process;
+  output = row .output .0;
+  direct = row .direct .0;
+  indirect = row .indirect .0;
+  raised = row .raised .0;
+  directPool = row .«direct_pool» .0;
+  indirectPool = row .«indirect_pool» .0;
+  directLeft = row .«direct_left» .0;
+  indirectLeft = row .«indirect_left» .0;
+}
+
 -- the fields of a line
-unfoldable pub rowFields : Reckoning → (k : ℕ) → List Figure
-rowFields r k = map held (rowLine (reportRow (rowHeld r k)) .fields)
+unfoldable pub fieldsOf : attribution.Row → List Figure
+fieldsOf row = map held (rowLine (reportRow row) .fields)
+
+abbrev pub rowFields : Reckoning → (k : ℕ) → List Figure
+rowFields r k = fieldsOf (rowHeld r k)
 
 unfoldable pub totalFields : Reckoning → List Figure
 totalFields r = map held (totalLine (totalsHeld r) .fields)
