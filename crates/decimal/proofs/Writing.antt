@@ -6,23 +6,21 @@ use native.Mathlib.Nat.{add-zero, zero-add}
 use native.Mathlib.Numerals.{add-one}
 use native.Mathlib.Omega.{arith}
 use lib.ListN.{length, take, drop, set, getD, length-append, length-drop, take-append-drop}
-use lib.Seq.{set-split, set-at, drop-cons, length-take-le, take-at, drop-append-add, drop-drop}
+use lib.Seq.{take-suc, set-split, set-at, length-take-le, take-at, drop-append-add, drop-drop}
 use Rattle.decimal.specs.Writing.{written, Put}
 
 pub written-one : (l : List ℕ) (at x : ℕ) → at < length l → set l at x ≡ written l at (x ∷ [])
 unfolding written
 written-one l at x h = rw (set-split l at x h, add-one)
 
-pub written-more : (l : List ℕ) (at : ℕ) (xs : List ℕ) (x : ℕ) → at + length xs < length l
-    → set (written l at xs) (at + length xs) x ≡ written l at (xs ++ (x ∷ []))
+-- one byte before bytes written
+pub written-before : (l : List ℕ) (at x : ℕ) (xs : List ℕ) → at < length l → set (written l (suc at) xs) at x ≡ written l at (x ∷ xs)
 unfolding written
-written-more l at xs x h =
-    let k : ℕ = at + length xs in
-    let e : drop k l ≡ getD l k 0 ∷ drop (suc k) l = drop-cons l k 0 h in
-    let n : length (take at l ++ xs) ≡ k = simp (length-append, length-take-le at l (let p : at ≤ length l = omega arith in p)) in
-    let s : at + (length xs + 1) ≡ suc k = omega arith in
-    rw (e, ← append-assoc (take at l) xs, set-at (take at l ++ xs) (getD l k 0) (drop (suc k) l) x k n)
-    (simp (length-append, append-assoc, s))
+written-before l at x xs h =
+    let n : length (take at l) ≡ at = length-take-le at l (let p : at ≤ length l = omega arith in p) in
+    let s : suc at + length xs ≡ at + suc (length xs) = omega arith in
+    rw (take-suc l at 0 h, append-assoc (take at l) (getD l at 0 ∷ []) (xs ++ drop (suc at + length xs) l))
+    (set-at (take at l) (getD l at 0) (xs ++ drop (suc at + length xs) l) x at n ∙ ap (λ (m : ℕ). take at l ++ (x ∷ (xs ++ drop m l))) s)
 
 pub length-written : (l : List ℕ) (at : ℕ) (vs : List ℕ) → at + length vs ≤ length l → length (written l at vs) ≡ length l
 unfolding written

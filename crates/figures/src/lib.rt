@@ -1,7 +1,7 @@
 // Document 01, "The report": fields and lines written into a lent space. The definitions are in specs/ and in the report's.
 ghost use mathlib.Core.Path.{_≡_};
 ghost use mathlib.Core.List.{_++_, _∷_, []};
-ghost use Prim.Native.Nat.{_+_, _*_, _≤_, _<_};
+ghost use Prim.Native.Nat.{_+_, _≤_, _<_};
 ghost use lib.ListN.{length, take};
 ghost use Rattle.decimal.specs.Writing.{Put};
 ghost use Rattle.figures.specs.Figures.{FIELDS, three, spelt, tailed, line};
@@ -14,34 +14,6 @@ pub enum Figure {
     Whole(u64),
     Minus(u64),
     Parts(u64, u64),
-}
-
-// How many bytes a field has.
-pub fn figure_width(f: Figure) -> usize
-    ensures { λ r. ⌜ r ≡ length (spelt f) ⌝ }
-    ensures bounded { λ r. ⌜ r ≤ 24 ⌝ }
-{
-    match f {
-        Figure::Whole(n) => decimal::width(n),
-        Figure::Minus(n) => decimal::width(n) + 1,
-        Figure::Parts(w, t) => decimal::width(w) + 4,
-    }
-}
-
-// How many bytes a line of the first n fields has.
-pub fn line_width(fields: [Figure; FIELDS], n: usize) -> usize
-    requires { ⌜ n ≤ FIELDS ⌝ }
-    ensures { λ r. ⌜ r ≡ length (tailed (take n fields)) + 2 ⌝ }
-    ensures bounded { λ r. ⌜ r ≤ 25 * n + 2 ⌝ }
-{
-    let mut sum: usize = 2;
-    let mut i: usize = 0;
-    while i < n {
-        let f = fields[i];
-        sum += figure_width(f) + 1;
-        i += 1;
-    }
-    sum
 }
 
 // Writes one byte at a place of a lent space, and gives the place after it, as all below do.
@@ -102,4 +74,16 @@ pub fn put_line(
         i += 1;
     }
     put_byte(space, next, b'\n')
+}
+
+// Writes the first n of some bytes at the start of a lent space.
+pub fn put_bytes(space: &mut [u8], bytes: &[u8], n: usize)
+    requires { ⌜ (n ≤ length (now space)) × (n ≤ length (now bytes)) ⌝ }
+    ensures { λ r. ⌜ Put (now (space .entry)) 0 (take n (now (bytes .entry))) (now (space .exit)) n ⌝ }
+{
+    let mut i: usize = 0;
+    while i < n {
+        space[i] = bytes[i];
+        i += 1;
+    }
 }

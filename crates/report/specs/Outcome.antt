@@ -1,7 +1,7 @@
 -- Document 01, "Sheets sent back" and "What the contracts say", a: number, line, report length and each byte of the report space.
 use mathlib.Core.Bool.{Bool}
 use mathlib.Core.List.{List, [], _∷_, _++_}
-use Prim.Native.Nat.{ℕ}
+use Prim.Native.Nat.{ℕ, _+_, _*_}
 use lib.Dec.{ltb}
 use lib.ListN.{length, drop}
 use Rattle.decimal.specs.Spelling.{spelling}
@@ -16,6 +16,11 @@ use Rattle.report.specs.Spelling.{reportBytes}
 -- the report of a sheet
 unfoldable pub sheetReport : (sheet : List ℕ) → List ℕ
 sheetReport sheet = reportBytes (reportOf (reckoning (recordsOf sheet)))
+
+-- no report has more bytes. A number below 2^63 has at most 19 digits, so behind its comma a whole figure has at most 20 bytes, a specific
+-- figure 24 and `entered` 21: with letter and LF a process's line has 2 + 8 * 20 + 2 * 24, the last line 2 + 3 * 20 + 21
+abbrev pub longest : Limits → ℕ
+longest limits = 210 * limits .processes + 83
 
 -- 16: report space too short
 abbrev pub spaceTooShort : (sheet space : List ℕ) → Bool

@@ -1,6 +1,7 @@
 // The functions that programs in other languages link: include/wiltoresh.h declares them.
 ghost use mathlib.Core.Path.{_≡_};
-ghost use lib.ListN.{length};
+ghost use Prim.Native.Nat.{_≤_};
+ghost use lib.ListN;
 ghost use Rattle.quantity.specs.Limits.{limits};
 ghost use Rattle.lines.specs.Lines.{linesOf, lineBytes, lineStart};
 ghost use Rattle.lines.specs.Scan.{PlaceOf};
@@ -20,6 +21,7 @@ pub extern "C" fn wiltoresh_report(
     length: &mut usize,
 ) -> u64
     ensures { λ n. ⌜ gives (record { number = n; line = now (line .exit); length = now (length .exit) }) (now (space .exit)) ≡ outcome limits (now (sheet .entry)) (now (space .entry)) ⌝ }
+    ensures roomy { λ n. ⌜ (LONGEST ≤ lib.ListN.length (now (space .entry)) → n ≡ 16 → ⊥) ⌝ }
 {
     let answer = report(sheet, space);
     *line = answer.line;
@@ -37,7 +39,7 @@ pub extern "C" fn wiltoresh_line(sheet: &[u8], line: usize, start: &mut usize) -
     place.length
 }
 
-// No report has more bytes.
+// No report has more bytes: `wiltoresh_report` finds a space of this length never too short.
 #[no_mangle]
 pub extern "C" fn wiltoresh_longest() -> usize
     ensures { λ n. ⌜ n ≡ LONGEST ⌝ }

@@ -5,23 +5,27 @@ use Prim.Native.Nat.{ℕ, zero, suc, _≤_, _<_}
 use native.Mathlib.Omega.{arith}
 use native.Mathlib.Nat.{le-refl}
 use borrow.Author.Tests.{lt-ltb, le-ltb}
-use lib.ListN.{length}
+use lib.ListN.{length, take, drop}
+use lib.Seq.{take-at}
 use Rattle.quantity.specs.Limits.{limits}
 use Rattle.decimal.specs.Writing.{Put}
 use Rattle.decimal.proofs.Writing.{start-bytes, start-place}
 use Rattle.lines.specs.Records.{Record, recordsOf}
 use Rattle.sheet.specs.Verdict.{Check, check, Verdict, accepted, refused, firstOf}
 use Rattle.judge.specs.Code.{refusalNumber}
+use Rattle.sheet.proofs.First.{accepted-passes}
 use Rattle.attribution.specs.Reckoning as attribution
 use Rattle.attribution.specs.Verdict.{reckonerChecks}
 use Rattle.report.specs.Report.{reportOf}
 use Rattle.report.specs.Spelling.{reportBytes}
-use Rattle.report.specs.Outcome.{sheetReport, spaceTooShort, allChecks, verdict, outcomeOf, outcome, printed, carbon}
+use Rattle.report.specs.Outcome.{sheetReport, spaceTooShort, allChecks, verdict, outcomeOf, Outcome, outcome, printed, carbon}
+use Rattle.report.proofs.Longest.{report-most, never-short}
 use Rattle.reckoner.specs.Reckoned.{FiguresOf, Reckoned}
 use Rattle.reckoner.specs.declared.Reckoning.{Reckoning}
 use Rattle.reckoner.proofs.AllLines.{first-rest, first-here}
 use Rattle.reckoner.proofs.Answer.{numbered}
-use Rattle.writer.specs.Held.{Sound, rowHeld, rowsHeld, reckoningHeld, bytesHeld}
+use Rattle.writer.specs.Given.{outcomeWithin}
+use Rattle.writer.specs.Held.{LONGEST, Sound, rowHeld, rowsHeld, reckoningHeld, bytesHeld}
 
 -- ---- the figures of an accepted sheet
 
@@ -61,6 +65,24 @@ module _ (rs : List Record) (r : Reckoning) (f : FiguresOf rs r) where
   reckoning-is =
       rw (rows-are (r .count) (le-refl (r .count)), f .counted, f .left-is, f .entered-is, f .raised-is, f .uncredited-is)
 
+-- ---- row 16
+
+pub short-within : (report space : List ℕ) → length space < length report
+    → record { number = 16; line = 0; length = 0; space = space } ≡ outcomeWithin report space
+unfolding firstOf
+short-within report space h = rw (lt-ltb (length space) (length report) h)
+
+pub written-within : (report space : List ℕ) {after : List ℕ} {n : ℕ} → length report ≤ length space → Put space 0 report after n
+    → record { number = 0; line = 0; length = n; space = after } ≡ outcomeWithin report space
+unfolding firstOf
+written-within report space h w = rw (le-ltb (length space) (length report) h, start-place w, start-bytes w)
+
+-- bytes put at the start of a space are its first, and so are copied from there
+pub copied : {l report bytes space after : List ℕ} {n : ℕ} → Put l 0 report bytes n → Put space 0 (take n bytes) after n → Put space 0 report after n
+copied {l} {report} {bytes} {n = n} w p =
+    let first : take n bytes ≡ report = ap (take n) (start-bytes w) ∙ take-at report (drop (length report) l) n (sym (start-place w)) in
+    rw first at p
+
 -- ---- number, line, length and every byte
 
 module _ (sheet space : List ℕ) (r : Reckoning) (h : Reckoned sheet r) where
@@ -87,6 +109,10 @@ module _ (sheet space : List ℕ) (r : Reckoning) (h : Reckoned sheet r) where
     unfolding bytesHeld sheetReport
     bytes-are = ap (λ (q : attribution.Reckoning). reportBytes (reportOf q)) (reckoning-is (recordsOf sheet) r (h .figured zero-number))
 
+    pub report-short : length (bytesHeld r) ≤ LONGEST
+    report-short =
+        omega (arith, ap length bytes-are, report-most limits (omega arith) sheet (accepted-passes (reckonerChecks limits sheet) (h .passed zero-number)))
+
     pub printed-report : carbon limits sheet ≡ bytesHeld r
     unfolding carbon
     printed-report = ap (λ (v : Verdict). printed v (sheetReport sheet)) (h .passed zero-number) ∙ sym bytes-are
@@ -94,19 +120,13 @@ module _ (sheet space : List ℕ) (r : Reckoning) (h : Reckoned sheet r) where
     passes : firstOf (reckonerChecks limits sheet ++ last) ≡ firstOf last
     passes = first-rest (reckonerChecks limits sheet) last (h .passed zero-number)
 
-    pub short-outcome : length space < length (bytesHeld r) → record { number = 16; line = 0; length = 0; space = space } ≡ outcome limits sheet space
-    unfolding outcome verdict allChecks firstOf
-    short-outcome p =
-        let e = ap length bytes-are in
-        let q = lt-ltb (length space) (length (sheetReport sheet)) (let z : length space < length (sheetReport sheet) = omega arith in z) in
-        let v : firstOf last ≡ refused 16 0 = rw q in
-        sym (ap (λ (v : Verdict). outcomeOf v (sheetReport sheet) space) (passes ∙ v))
+    -- row 16 is left to judge
+    pub accepted-within : outcomeWithin (bytesHeld r) space ≡ outcome limits sheet space
+    unfolding outcome verdict allChecks
+    accepted-within =
+        ap (λ (report : List ℕ). outcomeWithin report space) bytes-are ∙ sym (ap (λ (v : Verdict). outcomeOf v (sheetReport sheet) space) passes)
 
-    pub written-outcome : {after : List ℕ} {n : ℕ} → length (bytesHeld r) ≤ length space → Put space 0 (bytesHeld r) after n
-        → record { number = 0; line = 0; length = n; space = after } ≡ outcome limits sheet space
-    unfolding outcome verdict allChecks firstOf
-    written-outcome {after} {n} p w =
-        let e = ap length bytes-are in
-        let q = le-ltb (length space) (length (sheetReport sheet)) (let z : length (sheetReport sheet) ≤ length space = omega arith in z) in
-        let v : firstOf last ≡ accepted = rw q in
-        rw (start-place w, start-bytes w, bytes-are) (sym (ap (λ (v : Verdict). outcomeOf v (sheetReport sheet) space) (passes ∙ v)))
+-- ---- 16 is not given to a space of LONGEST bytes
+
+pub roomy : (sheet space : List ℕ) (given : Outcome) → given ≡ outcome limits sheet space → LONGEST ≤ length space → given .number ≡ 16 → ⊥
+roomy sheet space given e h n = never-short limits (omega arith) sheet space h (sym (ap (λ (o : Outcome). o .number) e) ∙ n)

@@ -12,7 +12,7 @@ use Rattle.report.specs.Spelling.{Figure, whole, minus, thousandths, threeDigit
 use Rattle.figures.specs.Figures.{FIELDS, three, spelt, tailed, line, held}
 use Rattle.figures.proofs.Widths.{length-line}
 use Rattle.reckoner.specs.declared.Reckoning.{Reckoning}
-use Rattle.writer.specs.Held.{rowHeld, rowsHeld, totalsHeld, reckoningHeld, rowFields, totalFields, rowsBytes, bytesHeld}
+use Rattle.writer.specs.Held.{rowHeld, rowsHeld, totalsHeld, reckoningHeld, fieldsOf, rowFields, totalFields, rowsBytes, bytesHeld}
 
 -- ---- fields as the code holds them
 
@@ -49,7 +49,7 @@ map-append f [] b = refl
 map-append f (x ∷ a) b = ap (λ (l : List _). f x ∷ l) (map-append f a b)
 
 row-line : (r : Reckoning) (k : ℕ) → spellLines (rowLine (reportRow (rowHeld r k)) ∷ []) ≡ line 82 (rowFields r k)
-unfolding rowFields rowLine
+unfolding fieldsOf rowLine
 row-line r k = line-is 82 _
 
 -- ---- the lines of processes
@@ -72,7 +72,7 @@ report-parts r =
     ∙ ap (λ (l : List ℕ). spellLines (map rowLine (map reportRow (rowsHeld r (r .count)))) ++ l) (line-is 84 _)
 
 pub row-whole : (r : Reckoning) (k : ℕ) → take FIELDS (rowFields r k) ≡ rowFields r k
-unfolding rowFields rowLine
+unfolding fieldsOf rowLine
 row-whole r k = refl
 
 -- ---- how long

@@ -1,21 +1,23 @@
 -- The report of what the reckoner gives, in the report's definitions. Laws join it to the report of the sheet.
 use mathlib.Core.List.{List, [], _∷_, _++_, map}
-use Prim.Native.Nat.{ℕ, zero, suc, _+_, _*_, _^_, _≤_, _<_}
+use Prim.Native.Nat.{ℕ, zero, suc, _^_, _≤_, _<_}
 use lib.IntN.{natAbs}
 use lib.ListN.{getD}
 use Rattle.quantity.specs.Limits.{limits}
 use Rattle.goods.specs.Settling.{SIZE}
 use Rattle.attribution.specs.Reckoning as attribution
 use Rattle.report.specs.Report.{reportRow, reportOf}
+use Rattle.report.specs.Outcome.{longest}
 use Rattle.report.specs.Spelling.{rowLine, totalLine, spellLines, reportBytes}
-use Rattle.figures.specs.Figures.{FIELDS, held}
+use Rattle.figures.specs.Figures.{held}
 use Rattle.figures.specs.declared.Figure.{Figure}
 use Rattle.reckoner.specs.Works.{MOST}
 use Rattle.reckoner.specs.declared.Reckoning.{Reckoning}
+use Rattle.writer.specs.declared.Row.{Row}
 
--- no report has more bytes: a line has at most 25 for each field, and its letter and LF
+-- no report has more bytes
 abbrev pub LONGEST : ℕ
-LONGEST = (25 * FIELDS + 2) * limits .processes + 25 * 4 + 2
+LONGEST = longest limits
 
 -- what the writer asks of a reckoning
 pub record Sound (r : Reckoning) : Type 0 where
@@ -54,9 +56,26 @@ rowsHeld r (suc k) = rowsHeld r k ++ (rowHeld r (suc k) ∷ [])
 unfoldable pub reckoningHeld : Reckoning → attribution.Reckoning
 reckoningHeld r = record { rows = rowsHeld r (r .count); totals = totalsHeld r }
 
+-- a process's figures as the code passes them on
+abbrev pub rowSaid : Row → attribution.Row
+rowSaid row = record {
+  process = row .process;
+  output = row .output .0;
+  direct = row .direct .0;
+  indirect = row .indirect .0;
+  raised = row .raised .0;
+  directPool = row .«direct_pool» .0;
+  indirectPool = row .«indirect_pool» .0;
+  directLeft = row .«direct_left» .0;
+  indirectLeft = row .«indirect_left» .0;
+}
+
 -- the fields of a line
-unfoldable pub rowFields : Reckoning → (k : ℕ) → List Figure
-rowFields r k = map held (rowLine (reportRow (rowHeld r k)) .fields)
+unfoldable pub fieldsOf : attribution.Row → List Figure
+fieldsOf row = map held (rowLine (reportRow row) .fields)
+
+abbrev pub rowFields : Reckoning → (k : ℕ) → List Figure
+rowFields r k = fieldsOf (rowHeld r k)
 
 unfoldable pub totalFields : Reckoning → List Figure
 totalFields r = map held (totalLine (totalsHeld r) .fields)

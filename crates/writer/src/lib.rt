@@ -1,6 +1,6 @@
 // Document 01, "The report": the report of a sheet, written into a lent space.
 ghost use mathlib.Core.Path.{_≡_};
-ghost use Prim.Native.Nat.{_+_, _*_, _^_, _≤_, _<_};
+ghost use Prim.Native.Nat.{_^_, _≤_, _<_};
 ghost use mathlib.Core.List.{[]};
 ghost use lib.ListN.{length, take};
 ghost use lib.IntN.{natAbs};
@@ -12,12 +12,12 @@ ghost use Rattle.report.specs.Outcome.{outcome, printed, carbon};
 ghost use Rattle.sheet.specs.Verdict.{refused};
 ghost use Rattle.figures.specs.Figures.{FIELDS, held};
 ghost use Rattle.reckoner.specs.Works.{MOST};
-ghost use Rattle.writer.specs.Held.{LONGEST, Sound, rowFields, totalFields, rowsBytes, bytesHeld};
-ghost use Rattle.writer.specs.Given.{gives};
+ghost use Rattle.writer.specs.Held.{LONGEST, Sound, rowSaid, fieldsOf, totalFields, rowsBytes, bytesHeld};
+ghost use Rattle.writer.specs.Given.{gives, outcomeWithin};
 use figures::FIELDS;
 use figures::Figure;
-use figures::line_width;
 use figures::put_byte;
+use figures::put_bytes;
 use figures::put_line;
 use judge::refusals::Refusal;
 use judge::refusals::refusal_number;
@@ -31,8 +31,8 @@ use reckoner::reckon;
 // As many fields as the last line has behind its letter.
 const TOTALS: usize = 4;
 
-// No report has more bytes, and no refusal.
-pub const LONGEST: usize = (25 * FIELDS + 2) * PROCESSES + 25 * TOTALS + 2;
+// No report has more bytes, and no refusal printed.
+pub const LONGEST: usize = 210 * PROCESSES + 83;
 
 // Specific embedded emissions: pool/output in g/kg, three digits after the dot, cut down.
 fn specific_figure(pool: Grams, output: Kilos) -> Figure
@@ -56,26 +56,38 @@ fn signed_figure(total: SignedGrams) -> Figure
     Figure::Whole(grams as u64)
 }
 
-// The fields of process k's line.
-fn row_fields(r: Reckoning, k: usize) -> [Figure; FIELDS]
-    requires { ⌜ (1 ≤ k) × (k ≤ r .count) × (Sound r) ⌝ }
-    ensures { λ q. ⌜ q ≡ rowFields r k ⌝ }
+// What the line of a process shows, and its output.
+pub struct Row {
+    pub process: usize,
+    pub output: Kilos,
+    pub direct: Grams,
+    pub indirect: Grams,
+    pub raised: Grams,
+    pub direct_pool: Grams,
+    pub indirect_pool: Grams,
+    pub direct_left: Grams,
+    pub indirect_left: Grams,
+}
+
+// The fields of a process's line.
+fn row_fields(row: Row) -> [Figure; FIELDS]
+    requires { ⌜ (1 ≤ row .output .0) × (row .output .0 ≤ MOST) ⌝ }
+    ensures { λ q. ⌜ q ≡ fieldsOf (rowSaid row) ⌝ }
 {
-    let f = r.figures;
-    let output = r.outputs[k];
-    let direct = f.direct_pools[k];
-    let indirect = f.indirect_pools[k];
+    let output = row.output;
+    let direct_pool = row.direct_pool;
+    let indirect_pool = row.indirect_pool;
     [
-        Figure::Whole(k as u64),
-        Figure::Whole(f.direct[k]),
-        Figure::Whole(f.indirect[k]),
-        Figure::Whole(f.raised[k]),
-        Figure::Whole(direct),
-        Figure::Whole(indirect),
-        Figure::Whole(f.direct_lefts[k]),
-        Figure::Whole(f.indirect_lefts[k]),
-        specific_figure(Grams(direct), Kilos(output)),
-        specific_figure(Grams(indirect), Kilos(output)),
+        Figure::Whole(row.process as u64),
+        Figure::Whole(row.direct.0),
+        Figure::Whole(row.indirect.0),
+        Figure::Whole(row.raised.0),
+        Figure::Whole(direct_pool.0),
+        Figure::Whole(indirect_pool.0),
+        Figure::Whole(row.direct_left.0),
+        Figure::Whole(row.indirect_left.0),
+        specific_figure(direct_pool, output),
+        specific_figure(indirect_pool, output),
     ]
 }
 
@@ -93,31 +105,29 @@ fn total_fields(r: Reckoning) -> [Figure; FIELDS]
     fields
 }
 
-// How many bytes the report has.
-fn report_width(r: Reckoning) -> usize
-    requires { ⌜ Sound r ⌝ }
-    ensures { λ n. ⌜ n ≡ length (bytesHeld r) ⌝ }
-    ensures bounded { λ n. ⌜ n ≤ LONGEST ⌝ }
-{
-    let mut sum = line_width(total_fields(r), TOTALS);
-    let mut k: usize = 0;
-    while k < r.count {
-        k += 1;
-        sum += line_width(row_fields(r, k), FIELDS);
-    }
-    sum
-}
-
 // Writes the lines of all processes.
 fn put_rows(space: &mut [u8], r: Reckoning) -> usize
     requires { ⌜ (Sound r) × (length (bytesHeld r) ≤ length (now space)) ⌝ }
     ensures { λ n. ⌜ Put (now (space .entry)) 0 (rowsBytes r (r .count)) (now (space .exit)) n ⌝ }
 {
+    let f = r.figures;
+    let outputs = r.outputs;
     let mut at: usize = 0;
     let mut k: usize = 0;
     while k < r.count {
         k += 1;
-        at = put_line(space, at, b'R', row_fields(r, k), FIELDS);
+        let row = Row {
+            process: k,
+            output: Kilos(outputs[k]),
+            direct: Grams(f.direct[k]),
+            indirect: Grams(f.indirect[k]),
+            raised: Grams(f.raised[k]),
+            direct_pool: Grams(f.direct_pools[k]),
+            indirect_pool: Grams(f.indirect_pools[k]),
+            direct_left: Grams(f.direct_lefts[k]),
+            indirect_left: Grams(f.indirect_lefts[k]),
+        };
+        at = put_line(space, at, b'R', row_fields(row), FIELDS);
     }
     at
 }
@@ -155,7 +165,6 @@ pub fn print(sheet: &[u8], space: &mut [u8]) -> usize
     if number != 0 {
         return put_refusal(space, number, r.line);
     }
-    let width = report_width(r);
     put_report(space, r)
 }
 
@@ -166,9 +175,33 @@ pub struct Answer {
     pub length: usize,
 }
 
-// The report of a sheet at the start of the lent space; a refused sheet leaves the space as it was.
+// The report of an accepted sheet, in a space that may be too short: it is written apart, and so measured, before the space is touched.
+fn put_within(space: &mut [u8], r: Reckoning) -> Answer
+    requires { ⌜ (Sound r) × (length (bytesHeld r) ≤ LONGEST) ⌝ }
+    ensures { λ a. ⌜ gives a (now (space .exit)) ≡ outcomeWithin (bytesHeld r) (now (space .entry)) ⌝ }
+{
+    let mut bytes = [0u8; LONGEST];
+    let length = put_report(&mut bytes, r);
+    if space.len() < length {
+        return Answer {
+            number: refusal_number(Refusal::SpaceTooShort),
+            line: 0,
+            length: 0,
+        };
+    }
+    put_bytes(space, &bytes, length);
+    Answer {
+        number: 0,
+        line: 0,
+        length: length,
+    }
+}
+
+// The report of a sheet at the start of the lent space; a refused sheet leaves the space as it was. A space of LONGEST bytes is never too
+// short.
 pub fn report(sheet: &[u8], space: &mut [u8]) -> Answer
     ensures { λ a. ⌜ gives a (now (space .exit)) ≡ outcome limits (now (sheet .entry)) (now (space .entry)) ⌝ }
+    ensures roomy { λ a. ⌜ (LONGEST ≤ length (now (space .entry)) → a .number ≡ 16 → ⊥) ⌝ }
 {
     let r = reckon(sheet);
     let refusal = r.refusal;
@@ -180,17 +213,12 @@ pub fn report(sheet: &[u8], space: &mut [u8]) -> Answer
             length: 0,
         };
     }
-    if space.len() < report_width(r) {
-        return Answer {
-            number: refusal_number(Refusal::SpaceTooShort),
-            line: 0,
-            length: 0,
-        };
+    if space.len() < LONGEST {
+        return put_within(space, r);
     }
-    let length = put_report(space, r);
     Answer {
-        number: 0,
+        number: number,
         line: 0,
-        length: length,
+        length: put_report(space, r),
     }
 }

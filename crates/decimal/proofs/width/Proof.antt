@@ -1,37 +1,44 @@
 -- `decimal::width` meets its contract. Assumes nothing.
-use mathlib.Core.Path.{_≡_}
-use Prim.Native.Nat.{_+_, _<_}
 use native.Mathlib.Omega.{arith}
-use lib.ListN.{length}
-use Rattle.decimal.specs.Spelling.{spelling}
-use Rattle.decimal.proofs.Spelling.{spelling-some}
-use Rattle.decimal.proofs.Widths.{length-one, length-more, twenty}
+use lib.Count.{leading-le}
+use Rattle.decimal.proofs.Bits.{few-small, so-few, one-more}
+use borrow.Author.Needs.{needs}
 use Rattle.decimal.proofs.width.Statement.{statement}
 use Rattle.decimal.proofs.width.Tie as tie
 use Rattle.decimal.proofs.width.Reads as reads
 use Rattle.decimal.proofs.width.Lts as lts
 
-abbrev Inv-loop : tie.InvT-loop
-Inv-loop n left₀ digits₀ left digits = digits + length (spelling left) ≡ length (spelling n) + 1
+cast-bits : tie.Need-cast-bits
+cast-bits c = record { fits = omega (arith, leading-le 64 (c .args .n)) }
 
-abbrev μ-loop : tie.MeasureT-loop
-μ-loop n left₀ digits₀ left digits = left
+sub-bits : tie.Need-sub-bits
+sub-bits c = leading-le 64 (c .args .n)
 
-loop-holds : tie.Need-loop-holds Inv-loop μ-loop
-loop-holds c = omega arith
+mul-fewest : tie.Need-mul-fewest
+mul-fewest c = search needs
 
-add-digits : tie.Need-add-digits Inv-loop μ-loop
-add-digits c = omega (arith, twenty (c .before .before .args .n) (c .before .before .fits .n .fits), spelling-some (c .before .loop .left))
+mul-if1 : tie.Need-mul-if1
+mul-if1 c = search needs
 
-loop-less : tie.Need-loop-less Inv-loop μ-loop
-loop-less c = omega arith
+array-read-if1 : tie.Need-array-read-if1
+array-read-if1 c = search needs
 
-loop-again : tie.Need-loop-again Inv-loop μ-loop
-loop-again c = omega (arith, length-more (c .before .loop .left) (c .loop-test .taken))
+returns : tie.Need-returns
+returns c =
+    let n = c .before .args .n in
+    let h = c .before .fits .n .fits in
+    (so-few n h (c .if1 .taken), omega (arith, few-small n h))
 
-returns : tie.Need-returns Inv-loop μ-loop
-returns c = omega (arith, length-one (c .before .loop .left) (let h : c .before .loop .left < 10 = omega arith in h), twenty (c .before .before .args .n) (c .before .before .fits .n .fits))
+add-result : tie.Need-add-result
+add-result c = search needs
+
+returns-2 : tie.Need-returns-2
+returns-2 c =
+    let n = c .before .args .n in
+    let h = c .before .fits .n .fits in
+    (one-more n h (c .if1 .left), omega (arith, few-small n h))
 
 pub width-spec : {M : Type 1} → statement M
 width-spec =
-    tie.close (tie.spec Inv-loop μ-loop loop-holds add-digits loop-less loop-again returns)
+    tie.close
+    (tie.spec cast-bits sub-bits mul-fewest mul-if1 array-read-if1 returns add-result returns-2)
