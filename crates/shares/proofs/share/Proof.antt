@@ -5,9 +5,9 @@ use Prim.Native.Nat.{ℕ, _+_, _-_, _*_, _/_, _^_, _≤_, _<_}
 use native.Mathlib.Omega.{arith}
 use native.Mathlib.Nat.{le-trans, le-of-eq, mod-lt}
 use lib.Bits.{bitAnd}
-use Rattle.quantity.proofs.Division.{bit-small, divided, next, room, done, share-small}
-use Rattle.quantity.proofs.shares.share.Statement.{statement}
-use Rattle.quantity.proofs.shares.share.Tie as tie
+use Rattle.shares.proofs.LongDivision.{bit-small, divided, next, room, done, share-small}
+use Rattle.shares.proofs.share.Statement.{statement}
+use Rattle.shares.proofs.share.Tie as tie
 
 abbrev Inv-loop : tie.InvT-loop
 Inv-loop pool part whole i₀ highest d₀ i d =

@@ -1,8 +1,8 @@
 -- `settled` meets its contract, by the laws of long division. Assumes nothing.
 use borrow.Author.Needs.{needs}
-use Rattle.quantity.proofs.Division.{one-more, taken-off, left-below}
-use Rattle.quantity.proofs.shares.settled.Statement.{statement}
-use Rattle.quantity.proofs.shares.settled.Tie as tie
+use Rattle.shares.proofs.LongDivision.{one-more, taken-off, left-below}
+use Rattle.shares.proofs.settled.Statement.{statement}
+use Rattle.shares.proofs.settled.Tie as tie
 
 returns : tie.Need-returns
 returns c = search needs

@@ -1,9 +1,9 @@
 // Document 01, "Goods and precursors": ⌊P × C/A⌋, exact where P × C passes 64 bits.
-use crate::Grams;
-use crate::Kilos;
+use quantity::Grams;
+use quantity::Kilos;
 ghost use mathlib.Core.Path.{_≡_};
 ghost use Prim.Native.Nat.{_+_, _-_, _*_, _/_, _^_, _≤_, _<_};
-ghost use Rattle.quantity.specs.Ranges.{PartRange, TakerRange};
+ghost use Rattle.shares.specs.Ranges.{PartRange, TakerRange};
 
 // A division under way: the dividend so far is quotient × whole + remainder.
 struct Division {

@@ -1,11 +1,11 @@
 -- `bits_left` meets its contract. Assumes nothing.
 use native.Mathlib.Omega.{arith}
 use borrow.Author.Needs.{needs}
-use Rattle.quantity.proofs.Division.{zeros-few, highest-one, highest-all, highest-some}
-use Rattle.quantity.proofs.shares.bits_left.Statement.{statement}
-use Rattle.quantity.proofs.shares.bits_left.Tie as tie
-use Rattle.quantity.proofs.shares.bits_left.Reads as reads
-use Rattle.quantity.proofs.shares.bits_left.Lts as lts
+use Rattle.shares.proofs.LongDivision.{zeros-few, highest-one, highest-all, highest-some}
+use Rattle.shares.proofs.bits_left.Statement.{statement}
+use Rattle.shares.proofs.bits_left.Tie as tie
+use Rattle.shares.proofs.bits_left.Reads as reads
+use Rattle.shares.proofs.bits_left.Lts as lts
 
 add-zeros : tie.Need-add-zeros
 add-zeros c = record { fits = omega (arith, zeros-few (c .args .pool) (c .args .part) (c .fits .pool .fits) (c .fits .part .fits)) }

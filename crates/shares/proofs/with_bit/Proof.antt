@@ -1,9 +1,9 @@
 -- `with_bit` meets its contract, by the laws of long division. Assumes nothing.
 use Prim.Native.Nat.{_*_}
 use mathlib.Core.Path.{_∙_}
-use Rattle.quantity.proofs.Division.{doubled-below, remainder-fits, doubled-room, doubled-fits, grown-room, grown, added-fits, grown-fits, grown-below}
-use Rattle.quantity.proofs.shares.with_bit.Statement.{statement}
-use Rattle.quantity.proofs.shares.with_bit.Tie as tie
+use Rattle.shares.proofs.LongDivision.{doubled-below, remainder-fits, doubled-room, doubled-fits, grown-room, grown, added-fits, grown-fits, grown-below}
+use Rattle.shares.proofs.with_bit.Statement.{statement}
+use Rattle.shares.proofs.with_bit.Tie as tie
 
 mul-t6 : tie.Need-mul-t6
 mul-t6 c =

@@ -7,7 +7,7 @@ use native.Mathlib.Omega.{arith}
 use lib.Bits.{bitAnd, and-mask}
 use lib.Count.{leadingZeros, leading-le, leading-length}
 use lib.Pow.{pow-pos, pow-mono, pow-add, shr-shr, shr-le, shr-lt}
-use Rattle.quantity.specs.Ranges.{PartRange}
+use Rattle.shares.specs.Ranges.{PartRange}
 
 -- ---- the remainder brought below the whole
 next-multiple : (q r w : ℕ) → w ≤ r → (q + 1) * w ≤ q * w + r

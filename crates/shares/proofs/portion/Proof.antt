@@ -2,9 +2,9 @@
 use mathlib.Core.Path.{sym}
 use native.Mathlib.Nat.{le-trans, le-of-eq}
 use borrow.Author.Needs.{needs}
-use Rattle.quantity.proofs.Division.{share-rising}
-use Rattle.quantity.proofs.shares.portion.Statement.{statement}
-use Rattle.quantity.proofs.shares.portion.Tie as tie
+use Rattle.shares.proofs.LongDivision.{share-rising}
+use Rattle.shares.proofs.portion.Statement.{statement}
+use Rattle.shares.proofs.portion.Tie as tie
 
 share-requires : tie.Need-share-requires
 share-requires c κs = search needs
