@@ -10,7 +10,7 @@ use Rattle.report.specs.Report.{reportRow, reportOf}
 use Rattle.report.specs.Spelling.{rowLine, totalLine, spellLines, reportBytes}
 use Rattle.figures.specs.Figures.{FIELDS, held}
 use Rattle.figures.specs.declared.Figure.{Figure}
-use Rattle.reckoner.specs.Works.{MOST}
+use Rattle.works.specs.Works.{MOST}
 use Rattle.reckoner.specs.declared.Reckoning.{Reckoning}
 
 -- no report has more bytes: a line has at most 25 for each field, and its letter and LF

@@ -15,10 +15,10 @@ use Rattle.goods.specs.Settling.{SIZE}
 use Rattle.quantity.specs.Limits.{limits}
 use Rattle.entries.specs.Read.{recordRead, Shaped}
 use Rattle.entries.proofs.KindWords.{process-words, goods-words}
-use Rattle.reckoner.specs.declared.judging.Works.{Works}
+use Rattle.works.specs.declared.Works.{Works}
 use Rattle.ledger.specs.Ledger.{booked}
 use Rattle.entries.specs.Entries.{entry}
-use Rattle.reckoner.specs.Works.{worksOf, outputNoted, takenNoted, pairNoted, countAfter, outputsAfter, takenAfter, kilosAfter, worksAfter, KILOS, MOST, Roomy}
+use Rattle.works.specs.Works.{worksOf, outputNoted, takenNoted, pairNoted, countAfter, outputsAfter, takenAfter, kilosAfter, worksAfter, KILOS, MOST, Roomy}
 
 module _ (w : Works) (kilos : List ℕ) (l : LineRead) where
   -- ---- what is left, by the kind

@@ -1,13 +1,13 @@
 use mathlib.Core.Path.{sym, _∙_}
 use borrow.Author.Needs.{needs}
 use borrow.Author.Tests.{eq-eqb, ne-eqb}
-use Rattle.reckoner.proofs.Judged.{else-first, else-next, order-no-good, good-placed}
-use Rattle.reckoner.proofs.judging.line_refusal.Statement.{statement}
-use Rattle.reckoner.proofs.judging.line_refusal.Tie as tie
-use Rattle.reckoner.proofs.judging.line_refusal.Reads as reads
-use Rattle.reckoner.proofs.judging.line_refusal.Lts as lts
-use Rattle.reckoner.proofs.judging.good_refusal.Reads as good-refusal-reads
-use Rattle.reckoner.proofs.judging.letter_of.Reads as letter-of-reads
+use Rattle.works.proofs.Judged.{else-first, else-next, order-no-good, good-placed}
+use Rattle.works.proofs.judging.line_refusal.Statement.{statement}
+use Rattle.works.proofs.judging.line_refusal.Tie as tie
+use Rattle.works.proofs.judging.line_refusal.Reads as reads
+use Rattle.works.proofs.judging.line_refusal.Lts as lts
+use Rattle.works.proofs.judging.good_refusal.Reads as good-refusal-reads
+use Rattle.works.proofs.judging.letter_of.Reads as letter-of-reads
 use Rattle.judge.proofs.order.order_refusal.Reads as order-refusal-reads
 use Rattle.judge.proofs.refusals.refusal_number.Reads as refusal-number-reads
 use Rattle.judge.proofs.shape.shape_refusal.Reads as shape-refusal-reads

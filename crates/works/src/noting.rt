@@ -6,7 +6,7 @@ ghost use Rattle.goods.specs.Settling.{SIZE};
 ghost use Rattle.ledger.specs.Ledger.{added};
 ghost use Rattle.quantity.specs.Limits.{limits};
 ghost use Rattle.entries.specs.Read.{recordRead, Shaped};
-ghost use Rattle.reckoner.specs.Works.{outputNoted, takenNoted, pairNoted, countAfter, outputsAfter, takenAfter, kilosAfter, KILOS, MOST, Roomy};
+ghost use Rattle.works.specs.Works.{outputNoted, takenNoted, pairNoted, countAfter, outputsAfter, takenAfter, kilosAfter, KILOS, MOST, Roomy};
 use super::judging::letter_of;
 use goods::PAIRS;
 use goods::SIZE;

@@ -1,8 +1,8 @@
 use borrow.Author.Needs.{needs}
-use Rattle.reckoner.proofs.judging.letter_of.Statement.{statement}
-use Rattle.reckoner.proofs.judging.letter_of.Tie as tie
-use Rattle.reckoner.proofs.judging.letter_of.Reads as reads
-use Rattle.reckoner.proofs.judging.letter_of.Lts as lts
+use Rattle.works.proofs.judging.letter_of.Statement.{statement}
+use Rattle.works.proofs.judging.letter_of.Tie as tie
+use Rattle.works.proofs.judging.letter_of.Reads as reads
+use Rattle.works.proofs.judging.letter_of.Lts as lts
 
 enum-told : tie.Need-enum-told
 enum-told c = search needs

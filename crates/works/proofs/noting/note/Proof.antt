@@ -1,13 +1,13 @@
 use mathlib.Core.Path.{sym, _∙_}
 use borrow.Author.Needs.{needs}
-use Rattle.reckoner.proofs.Noted.{noted-process, noted-good, noted-other, output-asked, good-asked}
-use Rattle.reckoner.proofs.noting.note.Statement.{statement}
-use Rattle.reckoner.proofs.noting.note.Tie as tie
-use Rattle.reckoner.proofs.noting.note.Reads as reads
-use Rattle.reckoner.proofs.noting.note.Lts as lts
-use Rattle.reckoner.proofs.judging.letter_of.Reads as letter-of-reads
-use Rattle.reckoner.proofs.noting.note_good.Reads as note-good-reads
-use Rattle.reckoner.proofs.noting.note_output.Reads as note-output-reads
+use Rattle.works.proofs.Noted.{noted-process, noted-good, noted-other, output-asked, good-asked}
+use Rattle.works.proofs.noting.note.Statement.{statement}
+use Rattle.works.proofs.noting.note.Tie as tie
+use Rattle.works.proofs.noting.note.Reads as reads
+use Rattle.works.proofs.noting.note.Lts as lts
+use Rattle.works.proofs.judging.letter_of.Reads as letter-of-reads
+use Rattle.works.proofs.noting.note_good.Reads as note-good-reads
+use Rattle.works.proofs.noting.note_output.Reads as note-output-reads
 
 letter-of-requires : tie.Need-letter-of-requires
 letter-of-requires c κs = search needs

@@ -13,7 +13,7 @@ use Rattle.ledger.specs.Ledger.{added, booked, start}
 use Rattle.ledger.specs.declared.Ledger.{Ledger}
 use Rattle.entries.specs.Entries.{entry}
 use Rattle.entries.specs.Read.{recordRead}
-use Rattle.reckoner.specs.declared.judging.Works.{Works}
+use Rattle.works.specs.declared.Works.{Works}
 
 abbrev pub worksOf : (lines count : ℕ) → (outputs taken : List ℕ) → Ledger → Works
 worksOf lines count outputs taken ledger = record { lines = lines; count = count; outputs = outputs; taken = taken; ledger = ledger }

@@ -14,20 +14,9 @@ use judge::order::order_refusal;
 use judge::refusals::Refusal;
 use judge::refusals::refusal_number;
 use judge::shape::shape_refusal;
-use ledger::Ledger;
 use lines::Kind;
 use lines::LineRead;
 use quantity::Kilos;
-
-// What the lines above say: how many they are, how many of them are P lines, the kilograms of each process's output and
-// those that G lines take of it, and the grams that they move.
-pub struct Works {
-    pub lines: usize,
-    pub count: usize,
-    pub outputs: [u64; SIZE],
-    pub taken: [u64; SIZE],
-    pub ledger: Ledger,
-}
 
 // The letter of a kind of line, 0 for none.
 pub fn letter_of(kind: Kind) -> u8
