@@ -6,7 +6,7 @@ ghost use Rattle.goods.specs.Settling.{PROCESSES, SIZE, figures, pairs, 
 use quantity::Grams;
 use quantity::Kilos;
 use quantity::limits::PROCESSES;
-use quantity::shares::share;
+use shares::share;
 
 // Figures stand at the process's number; place 0 is outside the works.
 pub const SIZE: usize = PROCESSES + 1;

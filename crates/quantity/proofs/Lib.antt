@@ -4,4 +4,3 @@ pub mod Rounding
 pub mod Weights
 pub mod Methods
 pub mod Tables
-pub mod Division

@@ -1,6 +1,5 @@
 // Document 01: grams of carbon dioxide, kilograms of goods and megajoules are three kinds of quantity.
 pub mod limits;
-pub mod shares;
 pub mod standard;
 pub mod streams;
 pub mod weighing;

@@ -25,9 +25,9 @@ use Rattle.sheet.proofs.Held.{GoodAsked}
 use Rattle.judge.proofs.LineNumber.{given, line-accepted, line-refused, read-number}
 use Rattle.entries.specs.Entries.{entry}
 use Rattle.entries.specs.Read.{recordRead, Shaped}
-use Rattle.reckoner.specs.Works.{worksAtStart, worksAfter, kilosAfter}
+use Rattle.works.specs.Works.{worksAtStart, worksAfter, kilosAfter}
 use Rattle.reckoner.specs.Gathered.{NoKilos}
-use Rattle.reckoner.specs.declared.judging.Works.{Works}
+use Rattle.works.specs.declared.Works.{Works}
 use Rattle.reckoner.proofs.HeldLedger.{held-start}
 use Rattle.reckoner.proofs.HeldGoods.{goods-start}
 use Rattle.reckoner.proofs.Standing.{Standing, standing-start, standing-next, good-held, read-shaped, read-few}

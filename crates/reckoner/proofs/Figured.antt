@@ -17,7 +17,7 @@ use Rattle.attribution.specs.Attribution.{direct, indirect}
 use Rattle.attribution.specs.Reckoning.{processCount, output, kilosBetween, directPool, indirectPool, directLeft, indirectLeft, totalLeft}
 use Rattle.reckoner.specs.Gathered.{Gathered}
 use Rattle.reckoner.specs.Reckoned.{Column, FiguresOf, acceptedAs}
-use Rattle.reckoner.specs.declared.judging.Works.{Works}
+use Rattle.works.specs.declared.Works.{Works}
 use Rattle.attribution.proofs.Valid.{Accepted}
 use Rattle.reckoner.proofs.Ready.{own-direct-is, own-indirect-is, raised-is, pairs-is, raised-sum}
 

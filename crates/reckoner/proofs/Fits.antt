@@ -18,7 +18,7 @@ use Rattle.attribution.specs.Attribution.{direct, indirect, raised, boughtDirec
 use Rattle.attribution.specs.Reckoning.{Row, processCount, output, kilosBetween, directPool, indirectPool, directLeft, indirectLeft, totalLeft, entered, totalRaised, uncredited, rowOf, rowsTo, reckoning}
 use Rattle.attribution.specs.Verdict.{rowGrams, rowsGrams, anyFrom, figureTooLarge}
 use Rattle.reckoner.specs.Gathered.{Gathered}
-use Rattle.reckoner.specs.declared.judging.Works.{Works}
+use Rattle.works.specs.declared.Works.{Works}
 use Rattle.attribution.proofs.Entries.{forward}
 use Rattle.attribution.proofs.Valid.{Accepted}
 

@@ -18,7 +18,7 @@ use Rattle.sheet.specs.Refusals.{sumOf, anyOf, process, outputIn}
 use Rattle.attribution.specs.Attribution.{indirect}
 use Rattle.attribution.specs.Reckoning.{processCount, output}
 use Rattle.reckoner.specs.Gathered.{Gathered}
-use Rattle.reckoner.specs.declared.judging.Works.{Works}
+use Rattle.works.specs.declared.Works.{Works}
 use Rattle.attribution.proofs.Entries.{balance-is, entered-is, figures}
 use Rattle.attribution.proofs.Bounds.{into-pools-le, raised-le}
 use Rattle.reckoner.proofs.HeldLedger.{HeldLedger}

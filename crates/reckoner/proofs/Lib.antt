@@ -2,8 +2,6 @@
 pub mod HeldLedger
 pub mod HeldGoods
 pub mod AnyOrder
-pub mod Judged
-pub mod Noted
 pub mod Standing
 pub mod AllLines
 pub mod Gathering

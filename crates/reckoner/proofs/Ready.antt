@@ -12,7 +12,7 @@ use Rattle.closing.specs.Closing.{Ready, ownDirect, ownIndirect, raisedOf}
 use Rattle.attribution.specs.Attribution.{direct, indirect, raised, boughtDirect, boughtIndirect}
 use Rattle.attribution.specs.Reckoning.{processCount, kilosBetween, totalRaised}
 use Rattle.reckoner.specs.Gathered.{Gathered}
-use Rattle.reckoner.specs.declared.judging.Works.{Works}
+use Rattle.works.specs.declared.Works.{Works}
 use Rattle.attribution.proofs.Entries.{forward}
 use Rattle.attribution.proofs.Valid.{Accepted}
 

@@ -32,11 +32,11 @@ use Rattle.entries.specs.Read.{recordRead, Shaped}
 use Rattle.entries.proofs.ReadBack.{rules-fit, record-back}
 use Rattle.entries.proofs.KindWords.{process-words, goods-words}
 use Rattle.attribution.specs.Reckoning.{kilosOf, kilosBetween}
-use Rattle.reckoner.specs.declared.judging.Works.{Works}
-use Rattle.reckoner.specs.Works.{worksAfter, kilosAfter, Roomy}
+use Rattle.works.specs.declared.Works.{Works}
+use Rattle.works.specs.Works.{worksAfter, kilosAfter, Roomy}
 use Rattle.reckoner.proofs.HeldLedger.{HeldLedger, held-booked}
 use Rattle.reckoner.proofs.HeldGoods.{HeldGoods, held-process, held-good, held-other}
-use Rattle.reckoner.proofs.Noted.{after-process, after-good, after-other}
+use Rattle.works.proofs.Noted.{after-process, after-good, after-other}
 
 -- a pair has kilograms exactly where a G line above has it
 abbrev pub Once : List Record → Type 0

@@ -14,8 +14,8 @@ use Rattle.sheet.specs.Verdict.{accepted, firstOf, linesChecks, numberOf, lineO
 use Rattle.judge.specs.Code.{refusalNumber}
 use Rattle.attribution.specs.Attribution.{balance, direct, indirect, boughtDirect, boughtIndirect}
 use Rattle.attribution.specs.Reckoning.{processCount, output, kilosBetween, entered, totalRaised, uncredited}
-use Rattle.reckoner.specs.Works.{MOST}
-use Rattle.reckoner.specs.declared.judging.Works.{Works}
+use Rattle.works.specs.Works.{MOST}
+use Rattle.works.specs.declared.Works.{Works}
 use Rattle.reckoner.specs.declared.reading.Read.{Read}
 
 pub record Gathered (rs : List Record) (w : Works) (kilos : List ℕ) : Type 0 where

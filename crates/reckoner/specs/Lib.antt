@@ -1,4 +1,3 @@
 -- What the code of the reckoner promises, in document 01's terms.
-pub mod Works
 pub mod Gathered
 pub mod Reckoned

@@ -19,8 +19,8 @@ use Rattle.closing.specs.declared.Closing.{Closing}
 use Rattle.attribution.specs.Attribution.{direct, indirect, raised}
 use Rattle.attribution.specs.Reckoning.{processCount, output, directPool, indirectPool, directLeft, indirectLeft, totalLeft, entered, totalRaised, uncredited}
 use Rattle.attribution.specs.Verdict.{reckonerChecks}
-use Rattle.reckoner.specs.Works.{MOST}
-use Rattle.reckoner.specs.declared.judging.Works.{Works}
+use Rattle.works.specs.Works.{MOST}
+use Rattle.works.specs.declared.Works.{Works}
 use Rattle.reckoner.specs.declared.Reckoning.{Reckoning}
 
 -- the array has the figure of each process at its number

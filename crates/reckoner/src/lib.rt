@@ -1,6 +1,4 @@
 // Document 01, "Attribution", "Goods and precursors" and the figures of "The report": a sheet's bytes to its reckoning.
-pub mod judging; // a line that was read, judged under the lines above it
-pub mod noting;
 pub mod reading; // a sheet read from the top
 
 ghost use mathlib.Core.Path.{_≡_};
@@ -16,11 +14,11 @@ use goods::PAIRS;
 use goods::SIZE;
 use judge::refusals::Refusal;
 use judge::refusals::refusal_number;
-use judging::Works;
 use quantity::Grams;
 use quantity::SignedGrams;
 use quantity::limits::BYTES;
 use reading::read_lines;
+use works::Works;
 
 // The reckoning of a sheet: the refusal and its line, or the figures of each process by its number and the totals.
 pub struct Reckoning {

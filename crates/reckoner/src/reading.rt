@@ -2,9 +2,6 @@
 ghost use mathlib.Core.Path.{_≡_};
 ghost use Rattle.ledger.specs.Ledger.{nothingMoved};
 ghost use Rattle.reckoner.specs.Gathered.{ReadOf, NoKilos};
-use super::judging::Works;
-use super::judging::line_refusal;
-use super::noting::note;
 use entries::weigh;
 use goods::PAIRS;
 use goods::SIZE;
@@ -16,6 +13,9 @@ use ledger::book;
 use lines::read_line;
 use quantity::Grams;
 use quantity::SignedGrams;
+use works::Works;
+use works::judging::line_refusal;
+use works::noting::note;
 
 // The first refusal by rows 2 to 13 and its line, 0 where there is none, and what the lines say.
 pub struct Read {

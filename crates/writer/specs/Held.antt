@@ -11,7 +11,7 @@ use Rattle.report.specs.Outcome.{longest}
 use Rattle.report.specs.Spelling.{rowLine, totalLine, spellLines, reportBytes}
 use Rattle.figures.specs.Figures.{held}
 use Rattle.figures.specs.declared.Figure.{Figure}
-use Rattle.reckoner.specs.Works.{MOST}
+use Rattle.works.specs.Works.{MOST}
 use Rattle.reckoner.specs.declared.Reckoning.{Reckoning}
 use Rattle.writer.specs.declared.Row.{Row}
 

@@ -11,7 +11,7 @@ ghost use Rattle.report.specs.Spelling.{thousandths, signed};
 ghost use Rattle.report.specs.Outcome.{outcome, printed, carbon};
 ghost use Rattle.sheet.specs.Verdict.{refused};
 ghost use Rattle.figures.specs.Figures.{FIELDS, held};
-ghost use Rattle.reckoner.specs.Works.{MOST};
+ghost use Rattle.works.specs.Works.{MOST};
 ghost use Rattle.writer.specs.Held.{LONGEST, Sound, rowSaid, fieldsOf, totalFields, rowsBytes, bytesHeld};
 ghost use Rattle.writer.specs.Given.{gives, outcomeWithin};
 use figures::FIELDS;

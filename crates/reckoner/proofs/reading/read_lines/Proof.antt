@@ -5,7 +5,7 @@ use borrow.Author.Needs.{needs}
 use lib.ListN.{length}
 use Rattle.ledger.specs.Ledger.{ledgerOf, start}
 use Rattle.sheet.specs.Verdict.{numberOf, lineOf}
-use Rattle.reckoner.specs.Works.{worksOf}
+use Rattle.works.specs.Works.{worksOf}
 use Rattle.reckoner.proofs.AllLines.{Reading, reading-start, accepted-here, refused-here, shaped-here, few-here, reading-next, reading-verdict}
 use Rattle.reckoner.proofs.Gathering.{gathered}
 use Rattle.reckoner.proofs.Standing.{roomy, room}
@@ -16,8 +16,8 @@ use Rattle.reckoner.proofs.reading.read_lines.Lts as lts
 use Rattle.entries.proofs.weigh.Reads as weigh-reads
 use Rattle.ledger.proofs.book.Reads as book-reads
 use Rattle.lines.proofs.read_line.Reads as read-line-reads
-use Rattle.reckoner.proofs.judging.line_refusal.Reads as line-refusal-reads
-use Rattle.reckoner.proofs.noting.note.Reads as note-reads
+use Rattle.works.proofs.judging.line_refusal.Reads as line-refusal-reads
+use Rattle.works.proofs.noting.note.Reads as note-reads
 use Rattle.reckoner.proofs.reading.nothing_moved.Reads as nothing-moved-reads
 use Rattle.reckoner.proofs.reading.refused_at.Reads as refused-at-reads
 use Rattle.judge.proofs.refusals.refusal_number.Reads as refusal-number-reads

@@ -1,0 +1,2 @@
+-- What the exact quotient asks of its arguments.
+pub mod Ranges

@@ -1,0 +1,86 @@
+-- What noting a line asks of its words, and what it leaves, by its kind. Assumes nothing.
+use mathlib.Core.Path.{_≡_, sym, ap, _∙_}
+use mathlib.Core.Bool.{false}
+use mathlib.Core.List.{List}
+use Prim.Native.Nat.{ℕ, _+_, _*_, _≤_, _<_}
+use native.Mathlib.Omega.{arith}
+use borrow.Author.Tests.{ne-eqb}
+use lib.Dec.{eqb}
+use lib.ListN.{length, getD}
+use Rattle.lines.specs.Records.{letter, kindOf}
+use Rattle.lines.proofs.OneRecord.{kind-letter}
+use Rattle.lines.specs.declared.Kind.the-variants.{Process, OwnGood}
+use Rattle.lines.specs.declared.LineRead.{LineRead}
+use Rattle.goods.specs.Settling.{SIZE}
+use Rattle.quantity.specs.Limits.{limits}
+use Rattle.entries.specs.Read.{recordRead, Shaped}
+use Rattle.entries.proofs.KindWords.{process-words, goods-words}
+use Rattle.works.specs.declared.Works.{Works}
+use Rattle.ledger.specs.Ledger.{booked}
+use Rattle.entries.specs.Entries.{entry}
+use Rattle.works.specs.Works.{worksOf, outputNoted, takenNoted, pairNoted, countAfter, outputsAfter, takenAfter, kilosAfter, worksAfter, KILOS, MOST, Roomy}
+
+module _ (w : Works) (kilos : List ℕ) (l : LineRead) where
+  -- ---- what is left, by the kind
+
+  -- as long as the line is no P line and no G line
+  abbrev pub lineBooked : Works
+  lineBooked = worksOf (w .lines + 1) (w .count) (w .outputs) (w .taken) (booked (w .ledger) (entry (recordRead l)))
+
+  abbrev pub processNoted : Works
+  processNoted =
+      worksOf (w .lines + 1) (w .count + 1) (outputNoted (w .outputs) l) (w .taken) (booked (w .ledger) (entry (recordRead l)))
+
+  abbrev pub goodNoted : Works
+  goodNoted = worksOf (w .lines + 1) (w .count) (w .outputs) (takenNoted (w .taken) l) (booked (w .ledger) (entry (recordRead l)))
+
+  pub after-process : l .kind ≡ Process → (worksAfter w l ≡ processNoted) × (kilosAfter kilos l ≡ kilos)
+  unfolding countAfter outputsAfter takenAfter kilosAfter
+  after-process e = (rw e, rw e)
+
+  pub after-good : l .kind ≡ OwnGood → (worksAfter w l ≡ goodNoted) × (kilosAfter kilos l ≡ pairNoted kilos l)
+  unfolding countAfter outputsAfter takenAfter kilosAfter
+  after-good e = (rw e, rw e)
+
+  pub after-other : eqb (letter (l .kind)) (letter Process) ≡ false → eqb (letter (l .kind)) (letter OwnGood) ≡ false
+      → (worksAfter w l ≡ lineBooked) × (kilosAfter kilos l ≡ kilos)
+  unfolding countAfter outputsAfter takenAfter kilosAfter
+  after-other p g = (rw (p, g), rw g)
+
+module _ (count : ℕ) (outputs taken kilos : List ℕ) (l : LineRead) where
+  -- the kilograms after a line, by its letter
+  abbrev Noted : (c : ℕ) → (o t k : List ℕ) → Type 0
+  Noted c o t k =
+      (c ≡ countAfter count l) × ((o ≡ outputsAfter outputs l) × ((t ≡ takenAfter taken l) × (k ≡ kilosAfter kilos l)))
+
+  pub noted-process : letter (l .kind) ≡ letter Process → Noted (count + 1) (outputNoted outputs l) taken kilos
+  unfolding countAfter outputsAfter takenAfter kilosAfter
+  noted-process e = (rw e, (rw e, (rw e, rw e)))
+
+  pub noted-good : letter (l .kind) ≡ letter OwnGood → Noted count outputs (takenNoted taken l) (pairNoted kilos l)
+  unfolding countAfter outputsAfter takenAfter kilosAfter
+  noted-good e = (rw e, (rw e, (rw e, rw e)))
+
+  pub noted-other : (letter (l .kind) ≡ letter Process → ⊥) → (letter (l .kind) ≡ letter OwnGood → ⊥) → Noted count outputs taken kilos
+  unfolding countAfter outputsAfter takenAfter kilosAfter
+  noted-other p g =
+      let a = ne-eqb _ _ p in
+      let b = ne-eqb _ _ g in
+      (rw a, (rw a, (rw b, rw b)))
+
+-- ---- what is asked of the words
+
+module _ (count : ℕ) (outputs taken kilos : List ℕ) (l : LineRead) (shaped : Shaped limits (recordRead l)) (sized : length (l .words) ≡ 8)
+    (few : l .count ≤ 8) (roomy : Roomy count outputs taken kilos) where
+  pub output-asked : letter (l .kind) ≡ letter Process
+      → ((getD (l .words) 0 0 < SIZE) × (getD (l .words) 1 0 ≤ KILOS)) × (getD outputs (getD (l .words) 0 0) 0 ≤ MOST)
+  output-asked e =
+      let n = process-words limits l shaped sized few (sym (kind-letter (l .kind)) ∙ ap kindOf e) in
+      ((omega (arith, n .0 .high), n .1 .high), roomy .outputs (getD (l .words) 0 0))
+
+  pub good-asked : letter (l .kind) ≡ letter OwnGood
+      → ((getD (l .words) 0 0 < SIZE) × ((getD (l .words) 1 0 < SIZE) × (getD (l .words) 2 0 ≤ KILOS)))
+      × ((getD taken (getD (l .words) 0 0) 0 ≤ MOST) × (getD kilos (getD (l .words) 0 0 * SIZE + getD (l .words) 1 0) 0 ≤ MOST))
+  good-asked e =
+      let n = goods-words limits l shaped sized few (sym (kind-letter (l .kind)) ∙ ap kindOf e) in
+      ((omega (arith, n .0 .high), (omega (arith, n .1 .high), n .2 .high)), (roomy .taken (getD (l .words) 0 0), roomy .pairs _))

@@ -1,0 +1,2 @@
+-- What the code holds of the lines above.
+pub mod Works

@@ -1,0 +1,66 @@
+-- What the code holds after one line more. Laws join it to document 01's sums; nothing here adds to their meaning.
+use mathlib.Core.Bool.{cond}
+use mathlib.Core.List.{List}
+use Prim.Native.Nat.{ℕ, _+_, _*_, _≤_}
+use lib.Dec.{eqb}
+use lib.ListN.{getD, replicate}
+use Rattle.quantity.specs.Limits.{limits}
+use Rattle.lines.specs.Records.{letter}
+use Rattle.lines.specs.declared.Kind.the-variants.{Process, OwnGood}
+use Rattle.lines.specs.declared.LineRead.{LineRead}
+use Rattle.goods.specs.Settling.{SIZE}
+use Rattle.ledger.specs.Ledger.{added, booked, start}
+use Rattle.ledger.specs.declared.Ledger.{Ledger}
+use Rattle.entries.specs.Entries.{entry}
+use Rattle.entries.specs.Read.{recordRead}
+use Rattle.works.specs.declared.Works.{Works}
+
+abbrev pub worksOf : (lines count : ℕ) → (outputs taken : List ℕ) → Ledger → Works
+worksOf lines count outputs taken ledger = record { lines = lines; count = count; outputs = outputs; taken = taken; ledger = ledger }
+
+-- a P line: one process more, and its output
+abbrev pub outputNoted : List ℕ → LineRead → List ℕ
+outputNoted outputs l = added outputs (getD (l .words) 0 0) (getD (l .words) 1 0)
+
+-- a G line: the kilograms that it takes of an output, and those of its pair of processes
+abbrev pub takenNoted : List ℕ → LineRead → List ℕ
+takenNoted taken l = added taken (getD (l .words) 0 0) (getD (l .words) 2 0)
+
+abbrev pub pairNoted : List ℕ → LineRead → List ℕ
+pairNoted kilos l = added kilos (getD (l .words) 0 0 * SIZE + getD (l .words) 1 0) (getD (l .words) 2 0)
+
+unfoldable pub countAfter : ℕ → LineRead → ℕ
+countAfter count l = cond (eqb (letter (l .kind)) (letter Process)) (count + 1) count
+
+unfoldable pub outputsAfter : List ℕ → LineRead → List ℕ
+outputsAfter outputs l = cond (eqb (letter (l .kind)) (letter Process)) (outputNoted outputs l) outputs
+
+unfoldable pub takenAfter : List ℕ → LineRead → List ℕ
+takenAfter taken l = cond (eqb (letter (l .kind)) (letter OwnGood)) (takenNoted taken l) taken
+
+unfoldable pub kilosAfter : List ℕ → LineRead → List ℕ
+kilosAfter kilos l = cond (eqb (letter (l .kind)) (letter OwnGood)) (pairNoted kilos l) kilos
+
+-- a line of any kind: its entry booked, its kilograms noted
+abbrev pub worksAfter : Works → LineRead → Works
+worksAfter w l =
+    worksOf (w .lines + 1) (countAfter (w .count) l) (outputsAfter (w .outputs) l) (takenAfter (w .taken) l)
+    (booked (w .ledger) (entry (recordRead l)))
+
+-- the most kilograms of one field, and of one field of every line
+abbrev pub KILOS : ℕ
+KILOS = Rattle.sheet.specs.Kinds.kilos .highest
+
+abbrev pub MOST : ℕ
+MOST = limits .lines * KILOS
+
+-- there is room for the kilograms of one line more
+pub record Roomy (processes : ℕ) (made took kilos : List ℕ) : Type 0 where
+  pub count : processes ≤ limits .lines
+  pub outputs : (i : ℕ) → getD made i 0 ≤ MOST
+  pub taken : (i : ℕ) → getD took i 0 ≤ MOST
+  pub pairs : (i : ℕ) → getD kilos i 0 ≤ MOST
+
+-- above the first line
+abbrev pub worksAtStart : Works
+worksAtStart = worksOf 0 0 (replicate SIZE 0) (replicate SIZE 0) start

@@ -1,0 +1,16 @@
+// What the lines of a sheet say so far: a line judged under them, and noted.
+pub mod judging;
+pub mod noting;
+
+use goods::SIZE;
+use ledger::Ledger;
+
+// What the lines above say: how many they are, how many of them are P lines, the kilograms of each process's output and
+// those that G lines take of it, and the grams that they move.
+pub struct Works {
+    pub lines: usize,
+    pub count: usize,
+    pub outputs: [u64; SIZE],
+    pub taken: [u64; SIZE],
+    pub ledger: Ledger,
+}
