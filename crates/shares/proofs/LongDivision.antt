@@ -2,7 +2,7 @@
 -- b a bit. Assumes nothing.
 use mathlib.Core.Path.{_≡_, sym, ap, subst, _∙_}
 use Prim.Native.Nat.{ℕ, _+_, _-_, _*_, _/_, _%_, _^_, _≤_, _<_}
-use native.Mathlib.Nat.{le-trans, le-of-lt, le-of-eq, lt-of-lt-of-le, div-add-mod', lt-of-le-of-lt, lt-of-mul-lt-mul-right, mul-lt-mul-of-pos-right, mul-le-mul-left, mul-le-mul-right, mul-comm, add-mul, mul-right-comm, div-eq-of-lt-le, div-eq-of-lt, div-one, div-mul-le-self, le-div-iff-mul-le, div-le-of-le-mul}
+use native.Mathlib.Nat.{mod-lt, le-trans, le-of-lt, le-of-eq, lt-of-lt-of-le, div-add-mod', lt-of-le-of-lt, lt-of-mul-lt-mul-right, mul-lt-mul-of-pos-right, mul-le-mul-left, mul-le-mul-right, mul-comm, add-mul, mul-right-comm, div-eq-of-lt-le, div-eq-of-lt, div-one, div-mul-le-self, le-div-iff-mul-le, div-le-of-le-mul}
 use native.Mathlib.Omega.{arith}
 use lib.Bits.{bitAnd, and-mask}
 use lib.Count.{leadingZeros, leading-le, leading-length}
@@ -143,3 +143,17 @@ share-small P p w h = div-le-of-le-mul w (le-trans (mul-le-mul-left P h) (let e 
 pub share-rising : (P c₁ c₂ w : ℕ) → c₁ ≤ c₂ → 1 ≤ w → P * c₁ / w ≤ P * c₂ / w
 share-rising P c₁ c₂ w h one =
     le-div-iff-mul-le one .1 (le-trans (div-mul-le-self (P * c₁) w) (mul-le-mul-left P h))
+
+-- P is P / w times w and a rest
+pub by-rest : (P p w : ℕ) → 1 ≤ w → P / w * p + P % w * p / w ≡ P * p / w
+by-rest P p w one =
+    let t : ℕ = P / w in
+    let s : ℕ = P % w in
+    let whole : (t * w + s) * p ≡ P * p = ap (λ (n : ℕ). n * p) (divided P w) in
+    let rest : s * p / w * w + s * p % w ≡ s * p = divided (s * p) w in
+    let e : (t * p + s * p / w) * w + s * p % w ≡ P * p =
+    omega (arith, add-mul (t * p) (s * p / w) w, mul-right-comm t p w, add-mul (t * w) s p) in
+    quotient (t * p + s * p / w) (s * p % w) (P * p) w e (mod-lt (s * p) one)
+
+pub times-small : (P p w : ℕ) → p ≤ w → 1 ≤ w → P / w * p + P % w * p / w ≤ P
+times-small P p w h one = le-trans (le-of-eq (by-rest P p w one)) (share-small P p w h)

@@ -67,7 +67,7 @@ fn bits_left(pool: u64, part: u64) -> u32
 
 // ⌊P × C/A⌋, "P being walked from its highest one bit down": the highest bits are taken in one division as long as their product with C fits,
 // the others bit by bit.
-pub fn share(pool: Grams, part: Kilos, whole: Kilos) -> Grams
+fn walked(pool: Grams, part: Kilos, whole: Kilos) -> Grams
     requires { ⌜ PartRange (part .0) (whole .0) ⌝ }
     ensures { λ r. ⌜ r .0 ≡ pool .0 * part .0 / whole .0 ⌝ }
     ensures bounded { λ r. ⌜ r .0 ≤ pool .0 ⌝ }
@@ -83,6 +83,17 @@ pub fn share(pool: Grams, part: Kilos, whole: Kilos) -> Grams
         d = with_bit(d, (pool.0 >> i) & 1, part.0, whole.0);
     }
     Grams(d.quotient)
+}
+
+// ⌊P × C/A⌋: P is times × A and a rest, of which fewer bits are left to walk.
+pub fn share(pool: Grams, part: Kilos, whole: Kilos) -> Grams
+    requires { ⌜ PartRange (part .0) (whole .0) ⌝ }
+    ensures { λ r. ⌜ r .0 ≡ pool .0 * part .0 / whole .0 ⌝ }
+    ensures bounded { λ r. ⌜ r .0 ≤ pool .0 ⌝ }
+{
+    let times = pool.0 / whole.0;
+    let rest = walked(Grams(pool.0 % whole.0), part, whole);
+    Grams(times * part.0 + rest.0)
 }
 
 // "The k-th portion is ⌊P × C(k)/A⌋ − ⌊P × C(k−1)/A⌋": before is C(k−1), with C(k).
