@@ -1,8 +1,9 @@
 // The figures of all processes once every line is booked: document 01, "Attribution", "Goods and precursors" and "The report".
 ghost use mathlib.Core.Path.{_≡_};
+ghost use lib.ListN.{length};
 ghost use Prim.Native.Nat.{_≤_, _<_};
 ghost use Rattle.goods.specs.Settling.{PROCESSES, SIZE, figures, pairs, Settleable, NoFigures};
-ghost use Rattle.closing.specs.Closing.{together, Pooled, Ready, Closed, anyLarge};
+ghost use Rattle.closing.specs.Closing.{Pooled, Ready, Closed, anyLarge};
 use goods::PAIRS;
 use goods::SIZE;
 use goods::settle;
@@ -30,23 +31,20 @@ pub struct Closing {
     pub total_raised: Grams,
 }
 
-// One kind of grams, direct or indirect: bought grams are added to the attribution, and the pools settled. The result is all that is left; `pools` and
-// `lefts` hold zeros at entry.
+// One kind of grams, direct or indirect: the pools settled. At entry `pools` holds attribution and bought grams, and `lefts` zeros; the result is all
+// that is left.
 fn pools_from(
     pools: &mut [u64; SIZE],
     lefts: &mut [u64; SIZE],
-    attribution: &[u64; SIZE],
-    bought: &[u64; SIZE],
     outputs: &[u64; SIZE],
     kilos: &[u64; PAIRS],
     count: usize,
 ) -> Grams
     requires { ⌜ count ≤ PROCESSES ⌝ }
-    requires { ⌜ Settleable count (figures (now outputs)) (pairs (now kilos)) (together (now attribution) (now bought)) ⌝ }
-    requires { ⌜ NoFigures (now pools) × NoFigures (now lefts) ⌝ }
-    ensures { λ r. ⌜ Pooled count (figures (now (outputs .entry))) (pairs (now (kilos .entry))) (together (now (attribution .entry)) (now (bought .entry))) (now (pools .exit)) (now (lefts .exit)) (r .0) ⌝ }
+    requires { ⌜ Settleable count (figures (now outputs)) (pairs (now kilos)) (figures (now pools)) ⌝ }
+    requires { ⌜ (length (now pools) ≡ SIZE) × NoFigures (now lefts) ⌝ }
+    ensures { λ r. ⌜ Pooled count (figures (now (outputs .entry))) (pairs (now (kilos .entry))) (figures (now (pools .entry))) (now (pools .exit)) (now (lefts .exit)) (r .0) ⌝ }
 {
-    add_all(pools, attribution, bought, count);
     settle(pools, lefts, outputs, kilos, count);
     total(lefts, count)
 }
@@ -62,23 +60,15 @@ pub fn close(l: Ledger, outputs: &[u64; SIZE], kilos: &[u64; PAIRS], count: usiz
     let total_raised = total(&raised, count);
     let mut direct_pools: [u64; SIZE] = [0; SIZE];
     let mut direct_lefts: [u64; SIZE] = [0; SIZE];
-    let direct_left = pools_from(
-        &mut direct_pools,
-        &mut direct_lefts,
-        &direct,
-        &l.bought_direct,
-        outputs,
-        kilos,
-        count,
-    );
+    add_all(&mut direct_pools, &direct, &l.bought_direct, count);
+    let direct_left = pools_from(&mut direct_pools, &mut direct_lefts, outputs, kilos, count);
     let indirect = l.indirect;
     let mut indirect_pools: [u64; SIZE] = [0; SIZE];
     let mut indirect_lefts: [u64; SIZE] = [0; SIZE];
+    add_all(&mut indirect_pools, &indirect, &l.bought_indirect, count);
     let indirect_left = pools_from(
         &mut indirect_pools,
         &mut indirect_lefts,
-        &indirect,
-        &l.bought_indirect,
         outputs,
         kilos,
         count,

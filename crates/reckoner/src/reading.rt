@@ -1,6 +1,8 @@
 // A sheet read from the top, each line judged and noted: one pass over the bytes.
 ghost use mathlib.Core.Path.{_≡_};
-ghost use Rattle.ledger.specs.Ledger.{nothingMoved};
+ghost use Rattle.ledger.specs.Ledger.{nothingMoved, ledgerOf};
+ghost use Rattle.judge.specs.declared.refusals.Refusal.the-variants.{Accepted};
+ghost use Rattle.works.specs.Works.{worksOf};
 ghost use Rattle.reckoner.specs.Gathered.{ReadOf, NoKilos};
 use entries::weigh;
 use goods::PAIRS;
@@ -59,6 +61,49 @@ fn refused_at(refusal: Refusal, line: usize) -> Read
     }
 }
 
+// The ledger of its columns and totals.
+fn ledger_of(
+    balances: [i64; SIZE],
+    indirect: [u64; SIZE],
+    bought_direct: [u64; SIZE],
+    bought_indirect: [u64; SIZE],
+    totals: Totals,
+) -> Ledger
+    ensures { λ r. ⌜ r ≡ ledgerOf balances indirect «bought_direct» «bought_indirect» totals ⌝ }
+{
+    Ledger {
+        balances,
+        indirect,
+        bought_direct,
+        bought_indirect,
+        totals,
+    }
+}
+
+// All lines are noted, and none is refused.
+fn accepted(
+    lines: usize,
+    count: usize,
+    outputs: [u64; SIZE],
+    taken: [u64; SIZE],
+    ledger: Ledger,
+) -> Read
+    ensures { λ r. ⌜ r ≡ record { refusal = Accepted; line = 0; works = worksOf lines count outputs taken ledger } ⌝ }
+{
+    let works = Works {
+        lines,
+        count,
+        outputs,
+        taken,
+        ledger,
+    };
+    Read {
+        refusal: Refusal::Accepted,
+        line: 0,
+        works,
+    }
+}
+
 // All lines of a sheet; `kilos` gets the kilograms of each pair of processes.
 pub fn read_lines(s: &[u8], kilos: &mut [u64; PAIRS]) -> Read
     requires { ⌜ NoKilos (now kilos) ⌝ }
@@ -92,23 +137,6 @@ pub fn read_lines(s: &[u8], kilos: &mut [u64; PAIRS]) -> Read
         count = note(count, &mut outputs, &mut taken, kilos, l);
         lines += 1;
     }
-    let ledger = Ledger {
-        balances,
-        indirect,
-        bought_direct,
-        bought_indirect,
-        totals,
-    };
-    let works = Works {
-        lines,
-        count,
-        outputs,
-        taken,
-        ledger,
-    };
-    Read {
-        refusal: Refusal::Accepted,
-        line: 0,
-        works,
-    }
+    let ledger = ledger_of(balances, indirect, bought_direct, bought_indirect, totals);
+    accepted(lines, count, outputs, taken, ledger)
 }

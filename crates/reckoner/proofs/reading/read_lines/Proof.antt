@@ -18,6 +18,8 @@ use Rattle.ledger.proofs.book.Reads as book-reads
 use Rattle.lines.proofs.read_line.Reads as read-line-reads
 use Rattle.works.proofs.judging.line_refusal.Reads as line-refusal-reads
 use Rattle.works.proofs.noting.note.Reads as note-reads
+use Rattle.reckoner.proofs.reading.accepted.Reads as accepted-reads
+use Rattle.reckoner.proofs.reading.ledger_of.Reads as ledger-of-reads
 use Rattle.reckoner.proofs.reading.nothing_moved.Reads as nothing-moved-reads
 use Rattle.reckoner.proofs.reading.refused_at.Reads as refused-at-reads
 use Rattle.judge.proofs.refusals.refusal_number.Reads as refusal-number-reads
@@ -110,11 +112,19 @@ loop-again c =
     rw (booked, noted .0, noted .1 .0, noted .1 .1 .0, noted .1 .1 .1, weighed .0)
     (reading-next _ _ _ _ rd more _ read ok (rw (weighed .0) at (weighed .1)))
 
+ledger-of-requires : tie.Need-ledger-of-requires Inv-loop μ-loop
+ledger-of-requires c κs = search needs
+
+accepted-requires : tie.Need-accepted-requires Inv-loop μ-loop
+accepted-requires c κs = search needs
+
 returns-2 : tie.Need-returns-2 Inv-loop μ-loop
 returns-2 c =
-    let rd = c .before .loop .inv in
-    let v = reading-verdict _ _ _ _ rd (c .loop-test .left) in
-    record { number = sym (ap numberOf v); line = sym (ap lineOf v); passed = λ z. v; gathered = λ z. gathered _ _ _ _ rd (c .loop-test .left) }
+    let rd = c .before .before .before .loop .inv in
+    let done = c .before .before .loop-test .left in
+    let v = reading-verdict _ _ _ _ rd done in
+    rw (c .accepted .ensures, c .before .ledger-of .ensures)
+    (record { number = sym (ap numberOf v); line = sym (ap lineOf v); passed = λ z. v; gathered = λ z. gathered _ _ _ _ rd done })
 
 pub read-lines-spec : {M : Type 1} → statement M
 read-lines-spec =
@@ -137,4 +147,6 @@ read-lines-spec =
     add-lines
     loop-less
     loop-again
+    ledger-of-requires
+    accepted-requires
     returns-2)
