@@ -1,12 +1,11 @@
 -- `closing::pools_from` meets its contract. Assumes nothing.
-use borrow.Author.Needs.{needs}
 use native.Mathlib.Omega.{arith}
 use Rattle.closing.proofs.Pooling.{left-small, pooled}
 use Rattle.closing.proofs.pools_from.Statement.{statement}
 use Rattle.closing.proofs.pools_from.Tie as tie
 
 settle-requires : tie.Need-settle-requires
-settle-requires c κs = search needs
+settle-requires c κs = c .before .before .pre
 
 total-requires : tie.Need-total-requires
 total-requires c κs =
