@@ -12,10 +12,8 @@
 #include <sys/mman.h>
 #include <unistd.h>
 
-uint64_t wiltoresh_report(const uint8_t *sheet, size_t sheet_length, uint8_t *space, size_t space_length, size_t *line,
-                          size_t *length);
-size_t wiltoresh_line(const uint8_t *sheet, size_t sheet_length, size_t line, size_t *start);
-size_t wiltoresh_longest(void);
+#include "wiltoresh.h"
+
 uint64_t plain_report(const uint8_t *sheet, size_t sheet_length, uint8_t *space, size_t space_length, size_t *line,
                       size_t *length);
 
