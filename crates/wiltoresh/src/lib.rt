@@ -6,7 +6,7 @@ ghost use Rattle.quantity.specs.Limits.{limits};
 ghost use Rattle.lines.specs.Lines.{linesOf, lineBytes, lineStart};
 ghost use Rattle.lines.specs.Scan.{PlaceOf};
 ghost use Rattle.report.specs.Outcome.{outcome};
-ghost use Rattle.writer.specs.Held.{LONGEST};
+ghost use Rattle.rows.specs.Held.{LONGEST};
 ghost use Rattle.writer.specs.Given.{gives};
 use lines::line_place;
 use writer::LONGEST;

@@ -25,7 +25,7 @@ use Rattle.reckoner.specs.declared.Reckoning.{Reckoning}
 use Rattle.reckoner.proofs.AllLines.{first-rest, first-here}
 use Rattle.reckoner.proofs.Answer.{numbered}
 use Rattle.writer.specs.Given.{outcomeWithin}
-use Rattle.writer.specs.Held.{LONGEST, Sound, rowHeld, rowsHeld, reckoningHeld, bytesHeld}
+use Rattle.rows.specs.Held.{LONGEST, Sound, rowHeld, rowsHeld, reckoningHeld, bytesHeld}
 
 -- ---- the figures of an accepted sheet
 

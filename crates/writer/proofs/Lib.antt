@@ -1,4 +1,2 @@
--- Laws of the report of a reckoning.
-pub mod Figures
-pub mod Rows
+-- Laws of the whole job.
 pub mod Job

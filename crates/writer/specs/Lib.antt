@@ -1,3 +1,2 @@
--- The report of what the reckoner gives.
-pub mod Held
+-- What the job gives.
 pub mod Given

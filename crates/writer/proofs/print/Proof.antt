@@ -10,7 +10,7 @@ use Rattle.writer.proofs.print.Lts as lts
 use Rattle.reckoner.proofs.reckon.Reads as reckon-reads
 use Rattle.judge.proofs.refusals.refusal_number.Reads as refusal-number-reads
 use Rattle.writer.proofs.put_refusal.Reads as put-refusal-reads
-use Rattle.writer.proofs.put_report.Reads as put-report-reads
+use Rattle.rows.proofs.put_report.Reads as put-report-reads
 
 reckon-requires : tie.Need-reckon-requires
 reckon-requires c κs = search needs

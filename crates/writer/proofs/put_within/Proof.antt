@@ -1,7 +1,7 @@
 -- `writer::put_within` meets its contract: nothing is written into a space that is too short, else the report. Assumes nothing.
 use native.Mathlib.Omega.{arith}
 use Rattle.decimal.proofs.Writing.{start-place}
-use Rattle.writer.specs.Held.{bytesHeld}
+use Rattle.rows.specs.Held.{bytesHeld}
 use Rattle.writer.proofs.Job.{short-within, written-within, copied}
 use borrow.Author.Needs.{needs}
 use Rattle.writer.proofs.put_within.Statement.{statement}
@@ -10,7 +10,7 @@ use Rattle.writer.proofs.put_within.Reads as reads
 use Rattle.writer.proofs.put_within.Lts as lts
 use Rattle.figures.proofs.put_bytes.Reads as put-bytes-reads
 use Rattle.judge.proofs.refusals.refusal_number.Reads as refusal-number-reads
-use Rattle.writer.proofs.put_report.Reads as put-report-reads
+use Rattle.rows.proofs.put_report.Reads as put-report-reads
 
 slice-aggregate-put-report : tie.Need-slice-aggregate-put-report
 slice-aggregate-put-report c = search needs

@@ -6,7 +6,7 @@ use native.Mathlib.Omega.{arith}
 use lib.ListN.{length}
 use Rattle.quantity.specs.Limits.{limits}
 use Rattle.report.specs.Outcome.{Outcome, outcome}
-use Rattle.writer.specs.Held.{LONGEST}
+use Rattle.rows.specs.Held.{LONGEST}
 use Rattle.writer.proofs.Job.{sound, report-short, refused-outcome, written-within, accepted-within, roomy}
 use borrow.Author.Needs.{needs}
 use Rattle.writer.proofs.report.Statement.{statement}
@@ -15,7 +15,7 @@ use Rattle.writer.proofs.report.Reads as reads
 use Rattle.writer.proofs.report.Lts as lts
 use Rattle.reckoner.proofs.reckon.Reads as reckon-reads
 use Rattle.judge.proofs.refusals.refusal_number.Reads as refusal-number-reads
-use Rattle.writer.proofs.put_report.Reads as put-report-reads
+use Rattle.rows.proofs.put_report.Reads as put-report-reads
 use Rattle.writer.proofs.put_within.Reads as put-within-reads
 
 -- both clauses from the first

@@ -9,14 +9,14 @@ use Rattle.figures.specs.Figures.{FIELDS, tailed}
 use Rattle.figures.specs.declared.Figure.{Figure}
 use Rattle.decimal.specs.Writing.{Put}
 use Rattle.decimal.proofs.Writing.{then, put-none, put-kept}
-use Rattle.writer.specs.Held.{rowHeld, rowsBytes}
-use Rattle.writer.proofs.Rows.{rows-none, rows-more, row-whole, rows-long, rows-within, report-long}
-use Rattle.writer.proofs.put_rows.Statement.{statement}
-use Rattle.writer.proofs.put_rows.Tie as tie
-use Rattle.writer.proofs.put_rows.Reads as reads
-use Rattle.writer.proofs.put_rows.Lts as lts
+use Rattle.rows.specs.Held.{rowHeld, rowsBytes}
+use Rattle.rows.proofs.Rows.{rows-none, rows-more, row-whole, rows-long, rows-within, report-long}
+use Rattle.rows.proofs.put_rows.Statement.{statement}
+use Rattle.rows.proofs.put_rows.Tie as tie
+use Rattle.rows.proofs.put_rows.Reads as reads
+use Rattle.rows.proofs.put_rows.Lts as lts
 use Rattle.figures.proofs.put_line.Reads as put-line-reads
-use Rattle.writer.proofs.row_fields.Reads as row-fields-reads
+use Rattle.rows.proofs.row_fields.Reads as row-fields-reads
 
 abbrev Inv-loop : tie.InvT-loop
 Inv-loop space₀ r f outputs at₀ k₀ space at k = (k ≤ r .count) × (Put space₀ 0 (rowsBytes r k) space at)

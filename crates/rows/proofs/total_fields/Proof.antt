@@ -1,12 +1,12 @@
 -- `writer::total_fields` meets its contract. Assumes nothing.
 use borrow.Author.Needs.{needs}
 use Rattle.report.specs.Spelling.{totalLine}
-use Rattle.writer.specs.Held.{totalFields}
-use Rattle.writer.proofs.total_fields.Statement.{statement}
-use Rattle.writer.proofs.total_fields.Tie as tie
-use Rattle.writer.proofs.total_fields.Reads as reads
-use Rattle.writer.proofs.total_fields.Lts as lts
-use Rattle.writer.proofs.signed_figure.Reads as signed-figure-reads
+use Rattle.rows.specs.Held.{totalFields}
+use Rattle.rows.proofs.total_fields.Statement.{statement}
+use Rattle.rows.proofs.total_fields.Tie as tie
+use Rattle.rows.proofs.total_fields.Reads as reads
+use Rattle.rows.proofs.total_fields.Lts as lts
+use Rattle.rows.proofs.signed_figure.Reads as signed-figure-reads
 
 array-set-from-fields : tie.Need-array-set-from-fields
 array-set-from-fields c = search needs

@@ -13,7 +13,7 @@ use Rattle.figures.specs.Figures.{held}
 use Rattle.figures.specs.declared.Figure.{Figure}
 use Rattle.works.specs.Works.{MOST}
 use Rattle.reckoner.specs.declared.Reckoning.{Reckoning}
-use Rattle.writer.specs.declared.Row.{Row}
+use Rattle.rows.specs.declared.Row.{Row}
 
 -- no report has more bytes
 abbrev pub LONGEST : ℕ

@@ -4,11 +4,11 @@ use native.Mathlib.Omega.{arith}
 use lib.IntN.{pos, _-ℤ_}
 use mir.Syntax.{w64}
 use mir.Val.{toZ, ofZ}
-use Rattle.writer.proofs.Figures.{sfits, back, Below, below, Above, above}
-use Rattle.writer.proofs.signed_figure.Statement.{statement}
-use Rattle.writer.proofs.signed_figure.Tie as tie
-use Rattle.writer.proofs.signed_figure.Reads as reads
-use Rattle.writer.proofs.signed_figure.Lts as lts
+use Rattle.rows.proofs.Figures.{sfits, back, Below, below, Above, above}
+use Rattle.rows.proofs.signed_figure.Statement.{statement}
+use Rattle.rows.proofs.signed_figure.Tie as tie
+use Rattle.rows.proofs.signed_figure.Reads as reads
+use Rattle.rows.proofs.signed_figure.Lts as lts
 
 same : (c : tie.Start) → toZ w64 (ofZ w64 (c .args .total .0)) ≡ c .args .total .0
 same c = back (c .args .total .0) (c .pre)

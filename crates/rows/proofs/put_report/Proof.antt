@@ -7,14 +7,14 @@ use lib.ListN.{length}
 use Rattle.decimal.proofs.Writing.{then}
 use Rattle.figures.specs.Figures.{tailed}
 use Rattle.figures.specs.declared.Figure.{Figure}
-use Rattle.writer.proofs.Rows.{report-parts, report-long}
-use Rattle.writer.proofs.put_report.Statement.{statement}
-use Rattle.writer.proofs.put_report.Tie as tie
-use Rattle.writer.proofs.put_report.Reads as reads
-use Rattle.writer.proofs.put_report.Lts as lts
+use Rattle.rows.proofs.Rows.{report-parts, report-long}
+use Rattle.rows.proofs.put_report.Statement.{statement}
+use Rattle.rows.proofs.put_report.Tie as tie
+use Rattle.rows.proofs.put_report.Reads as reads
+use Rattle.rows.proofs.put_report.Lts as lts
 use Rattle.figures.proofs.put_line.Reads as put-line-reads
-use Rattle.writer.proofs.put_rows.Reads as put-rows-reads
-use Rattle.writer.proofs.total_fields.Reads as total-fields-reads
+use Rattle.rows.proofs.put_rows.Reads as put-rows-reads
+use Rattle.rows.proofs.total_fields.Reads as total-fields-reads
 
 put-rows-requires : tie.Need-put-rows-requires
 put-rows-requires c κs = search needs

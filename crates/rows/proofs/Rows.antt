@@ -12,7 +12,7 @@ use Rattle.report.specs.Spelling.{Figure, whole, minus, thousandths, threeDigit
 use Rattle.figures.specs.Figures.{FIELDS, three, spelt, tailed, line, held}
 use Rattle.figures.proofs.Widths.{length-line}
 use Rattle.reckoner.specs.declared.Reckoning.{Reckoning}
-use Rattle.writer.specs.Held.{rowHeld, rowsHeld, totalsHeld, reckoningHeld, fieldsOf, rowFields, totalFields, rowsBytes, bytesHeld}
+use Rattle.rows.specs.Held.{rowHeld, rowsHeld, totalsHeld, reckoningHeld, fieldsOf, rowFields, totalFields, rowsBytes, bytesHeld}
 
 -- ---- fields as the code holds them
 

@@ -1,0 +1,2 @@
+-- The report of what the reckoner gives.
+pub mod Held
