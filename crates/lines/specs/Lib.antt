@@ -3,4 +3,3 @@ pub mod Lines
 pub mod Records
 pub mod Words
 pub mod Spelling
-pub mod Scan

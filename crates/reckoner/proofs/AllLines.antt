@@ -12,7 +12,7 @@ use Rattle.lines.specs.Lines.{linesOf}
 use Rattle.lines.specs.Records.{Record, recordOf, recordsOf}
 use Rattle.lines.specs.Words.{ReadAt, lineAt, lineLength, words}
 use Rattle.lines.specs.declared.LineRead.{LineRead}
-use Rattle.lines.proofs.NextLine.{lines-step, lines-done, line-ended}
+use Rattle.records.proofs.NextLine.{lines-step, lines-done, line-ended}
 use Rattle.goods.specs.Settling.{SIZE, PAIRS}
 use Rattle.ledger.specs.Ledger.{Small}
 use Rattle.quantity.specs.Limits.{limits}

@@ -15,7 +15,7 @@ use Rattle.reckoner.proofs.reading.read_lines.Reads as reads
 use Rattle.reckoner.proofs.reading.read_lines.Lts as lts
 use Rattle.entries.proofs.weigh.Reads as weigh-reads
 use Rattle.ledger.proofs.book.Reads as book-reads
-use Rattle.lines.proofs.read_line.Reads as read-line-reads
+use Rattle.records.proofs.read_line.Reads as read-line-reads
 use Rattle.works.proofs.judging.line_refusal.Reads as line-refusal-reads
 use Rattle.works.proofs.noting.note.Reads as note-reads
 use Rattle.reckoner.proofs.reading.accepted.Reads as accepted-reads

@@ -1,0 +1,2 @@
+-- A field as the code finds it.
+pub mod Scan
