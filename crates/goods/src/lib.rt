@@ -18,15 +18,15 @@ pub const PAIRS: usize = SIZE * SIZE;
 // C(k−1) and `through` C(k), `given` is ⌊P × C(k−1)/A⌋ and `next` ⌊P × C(k)/A⌋.
 fn pass_on(
     pools: &mut [u64; SIZE],
-    output: u64,
+    output: Kilos,
     kilos: &[u64; PAIRS],
     from: usize,
     count: usize,
-) -> u64
+) -> Grams
     requires { ⌜ (from ≤ count) × (count ≤ PROCESSES) ⌝ }
     requires { ⌜ length (now pools) ≡ SIZE ⌝ }
-    requires { ⌜ CanPassOn count from output (pairs (now kilos) from) (now pools) ⌝ }
-    ensures { λ r. ⌜ PassedOn count (getD (now (pools .entry)) from 0) output (pairs (now (kilos .entry)) from) (now (pools .entry)) (now (pools .exit)) r ⌝ }
+    requires { ⌜ CanPassOn count from (output .0) (pairs (now kilos) from) (now pools) ⌝ }
+    ensures { λ r. ⌜ PassedOn count (getD (now (pools .entry)) from 0) (output .0) (pairs (now (kilos .entry)) from) (now (pools .entry)) (now (pools .exit)) (r .0) ⌝ }
 {
     let pool = pools[from];
     let mut taken = 0;
@@ -38,13 +38,14 @@ fn pass_on(
         let kg = kilos[at];
         if kg > 0 {
             let through = taken + kg;
-            let next = share(Grams(pool), Kilos(through), Kilos(output));
+            let next = share(Grams(pool), Kilos(through), output);
             pools[to] = pools[to] + (next.0 - given);
             taken = through;
             given = next.0;
         }
     }
-    pool - given
+    let left = pool - given;
+    Grams(left)
 }
 
 // The pools of processes 1 .. count, settled one after the other, and what is left of each. At entry `pools` holds the attribution of each process
@@ -64,8 +65,8 @@ pub fn settle(
     let mut i = 1;
     while i <= count {
         let output = outputs[i];
-        let left = pass_on(pools, output, kilos, i, count);
-        lefts[i] = left;
+        let left = pass_on(pools, Kilos(output), kilos, i, count);
+        lefts[i] = left.0;
         i += 1;
     }
 }

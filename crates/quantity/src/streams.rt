@@ -9,12 +9,12 @@ ghost use Rattle.quantity.specs.Streams.{fossilGrams, combustionGrams, p
 ghost use Rattle.quantity.specs.Ranges.{CombustionRange, ProcessRange, CarbonRange, StreamRange};
 
 // c and d of methods 1 and 2: T3 = round(T2 × c/10,000), then round(T3 × (10,000 − d)/10,000).
-fn fossil(t2: u64, c: u64, d: u64) -> Grams
-    requires { ⌜ (t2 ≤ 1000000000000000) × ((c ≤ 10000) × (d ≤ 10000)) ⌝ }
-    ensures { λ r. ⌜ r .0 ≡ fossilGrams t2 c d ⌝ }
+fn fossil(t2: Grams, c: u64, d: u64) -> Grams
+    requires { ⌜ (t2 .0 ≤ 1000000000000000) × ((c ≤ 10000) × (d ≤ 10000)) ⌝ }
+    ensures { λ r. ⌜ r .0 ≡ fossilGrams (t2 .0) c d ⌝ }
     ensures bounded { λ r. ⌜ r .0 ≤ 1000000000000000 ⌝ }
 {
-    let t3 = crate::round_ten_thousandths(t2, c);
+    let t3 = crate::round_ten_thousandths(t2.0, c);
     Grams(crate::round_ten_thousandths(t3, 10000 - d))
 }
 
@@ -26,7 +26,7 @@ pub fn combustion(mass: Kilos, a: u64, b: u64, c: u64, d: u64) -> Grams
 {
     let t1 = crate::round_thousandths(mass.0, a);
     let t2 = crate::round_thousandths(t1, b);
-    fossil(t2, c, d)
+    fossil(Grams(t2), c, d)
 }
 
 // Method 2, process emission: T1 in g, then c and d.
@@ -36,7 +36,7 @@ pub fn process_emission(mass: Kilos, a: u64, c: u64, d: u64) -> Grams
     ensures bounded { λ r. ⌜ r .0 ≤ 1000000000000000 ⌝ }
 {
     let t1 = crate::round_thousandths(mass.0, a);
-    fossil(t1, c, d)
+    fossil(Grams(t1), c, d)
 }
 
 // Methods 3 and 4, carbon going in and carbon going out, without the sign.

@@ -10,7 +10,7 @@ use Rattle.goods.proofs.pass_on.Tie as tie
 
 abbrev Inv-loop : tie.InvT-loop
 Inv-loop pools₀ output kilos from count pool taken₀ given₀ to₀ pools taken given to =
-    (from ≤ to) × (to ≤ count) × (Passing pool output (pairs kilos from) pools₀ to taken given pools)
+    (from ≤ to) × (to ≤ count) × (Passing pool (output .0) (pairs kilos from) pools₀ to taken given pools)
 
 abbrev μ-loop : tie.MeasureT-loop
 μ-loop pools₀ output kilos from count pool taken₀ given₀ to₀ pools taken given to = count - to
@@ -28,7 +28,7 @@ loop-holds c =
 
 -- in a turn: the kilograms taken so far are within the output
 taken-within : (h : tie.At-loop Inv-loop μ-loop) → h .loop .to < h .before .before .args .count
-    → h .loop .taken + pairs (h .before .before .args .kilos .now) (h .before .before .args .from) (h .loop .to + 1) ≤ h .before .before .args .output
+    → h .loop .taken + pairs (h .before .before .args .kilos .now) (h .before .before .args .from) (h .loop .to + 1) ≤ h .before .before .args .output .0
 taken-within h l = taken-fits (h .loop .inv .2) (h .before .before .args .count) (h .before .before .pre .1 .1 .within) l
 
 add-to : tie.Need-add-to Inv-loop μ-loop
@@ -92,8 +92,8 @@ loop-again-2 c =
     let h = c .before .before .before in
     (omega arith, omega arith, passing-skip (h .loop .inv .2) (omega arith))
 
-sub-result : tie.Need-sub-result Inv-loop μ-loop
-sub-result c =
+sub-left : tie.Need-sub-left Inv-loop μ-loop
+sub-left c =
     let h = c .before in
     omega (arith, given-fits (h .loop .inv .2) (h .before .before .args .count) (h .before .before .pre .1 .1 .within) (omega arith))
 
@@ -126,5 +126,5 @@ pass-on-spec =
     loop-again
     loop-less-2
     loop-again-2
-    sub-result
+    sub-left
     returns)
