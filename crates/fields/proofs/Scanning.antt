@@ -1,10 +1,10 @@
 -- One pass over a field: what is known at each byte, and what a field says by its first byte and its length. Assumes nothing.
 use mathlib.Core.Path.{_≡_, refl, sym, ap, _∙_}
 use mathlib.Core.Bool.{Bool, true, false, cond, _&&_}
-use mathlib.Core.Logic.{⊎-elim}
+use mathlib.Core.Logic.{_⊎_, ⊎-elim, inl, inr}
 use mathlib.Core.List.{List, [], _∷_}
-use Prim.Native.Nat.{ℕ, suc, _+_, _-_, _*_, _^_, min, _≤_, _<_}
-use native.Mathlib.Nat.{le-refl, le-trans, lt-of-not-le, pow-suc, pow-le-pow-right}
+use Prim.Native.Nat.{ℕ, suc, _+_, _-_, _*_, min, _≤_, _<_}
+use native.Mathlib.Nat.{le-refl, le-trans, lt-of-not-le}
 use native.Mathlib.Decide.{decLe, ℕ-discrete}
 use native.Mathlib.Numerals.{add-one}
 use native.Mathlib.Omega.{arith}
@@ -16,8 +16,8 @@ use Rattle.decimal.specs.Number.{isDigit, allDigits, isNumber, valueFrom, value
 use Rattle.decimal.proofs.Bools.{and-both, never}
 use Rattle.lines.specs.Lines.{LF, COMMA}
 use Rattle.lines.specs.Records.{Field, number, dash, other, fieldOf}
-use Rattle.lines.specs.Words.{CAP}
-use Rattle.fields.specs.Scan.{SHORT, fieldLength, fieldAt, saidOf, Capped, digitsSaid, digitsFrom, Scanning, NumberAt, ScannedAt, FieldReadAt, FieldBounds}
+use Rattle.lines.specs.Words.{CAP, DASH, word}
+use Rattle.fields.specs.Scan.{fieldLength, fieldAt, saidOf, wordOf, Capped, digitsSaid, digitsFrom, Scanning, NumberAt, ScannedAt, FieldReadAt, FieldBounds, EndsInLF, FieldBefore}
 use Rattle.fields.specs.declared.Said.{Said}
 use Rattle.fields.specs.declared.Said.the-variants.{Number, Dash, Other}
 use Rattle.fields.specs.declared.Scanned.{Scanned}
@@ -43,16 +43,33 @@ field-none = refl
 from-here : (s : List ℕ) (i : ℕ) → i < length s → drop i s ≡ getD s i 0 ∷ drop (i + 1) s
 from-here s i h = rw add-one (drop-cons s i 0 h)
 
--- one byte before a comma
-pub field-one : (s : List ℕ) (start : ℕ) → start + 1 < length s → getD s (start + 1) 0 ≡ COMMA → COMMA < getD s start 0
+-- the byte behind a field is a comma or LF
+abbrev pub Stop : (byte : ℕ) → Type 0
+Stop byte = (byte ≡ COMMA) ⊎ (byte ≡ LF)
+
+-- no byte of a field is left where it stands
+field-stop : (s : List ℕ) (i stop : ℕ) → Stop stop → i < length s → getD s i 0 ≡ stop → fieldLength (drop i s) ≡ 0
+field-stop s i stop w h e =
+    ap fieldLength (from-here s i h)
+    ∙ ⊎-elim (λ c. field-comma (getD s i 0) (drop (i + 1) s) (e ∙ c)) (λ c. field-LF (getD s i 0) (drop (i + 1) s) (e ∙ c)) w
+
+-- a field of one byte
+pub field-one : (s : List ℕ) (start stop : ℕ) → Stop stop → start + 1 < length s → getD s (start + 1) 0 ≡ stop → COMMA < getD s start 0
     → start + 1 ≡ start + fieldLength (drop start s)
-field-one s start h e l =
+field-one s start stop w h e l =
     let b : ℕ = getD s start 0 in
     let first = from-here s start (omega arith) in
-    let next = from-here s (start + 1) h in
     let one = ap fieldLength first ∙ field-past b (drop (start + 1) s) (λ f. omega arith) (λ f. omega arith) in
-    let none = ap fieldLength next ∙ field-comma (getD s (start + 1) 0) (drop (start + 1 + 1) s) e in
+    let none = field-stop s (start + 1) stop w h e in
     omega (arith, one, none)
+
+-- a byte that is no LF is not the last of a sheet that ends in LF
+pub not-last : (s : List ℕ) (i : ℕ) → EndsInLF s → i < length s → (getD s i 0 ≡ LF → ⊥) → i + 1 < length s
+not-last s i e h n =
+    elim (decLe (length s) (i + 1)) [
+      | yes g ↦ absurd (n (ap (λ (k : ℕ). getD s k 0) (let l : i ≡ length s - 1 = omega arith in l) ∙ e))
+      | no g ↦ lt-of-not-le g
+    ]
 
 -- ---- digits
 
@@ -122,11 +139,14 @@ module _ (s : List ℕ) (start value : ℕ) (all : Bool) (end : ℕ) (k : Scanni
     left : drop end s ≡ b ∷ rest
     left = from-here s end h
 
+    scanned-stop : (stop : ℕ) → Stop stop → b ≡ stop → ScannedAt s start (stopped value all end)
+    scanned-stop stop w e = scanned (field-stop s end stop w h e)
+
     pub scanned-LF : b ≡ LF → ScannedAt s start (stopped value all end)
-    scanned-LF e = scanned (ap fieldLength left ∙ field-LF b rest e)
+    scanned-LF e = scanned-stop LF (inr refl) e
 
     pub scanned-comma : b ≡ COMMA → ScannedAt s start (stopped value all end)
-    scanned-comma e = scanned (ap fieldLength left ∙ field-comma b rest e)
+    scanned-comma e = scanned-stop COMMA (inl refl) e
 
     -- one more byte of the field
     module _ (p : b ≡ LF → ⊥) (q : b ≡ COMMA → ⊥) where
@@ -270,15 +290,32 @@ unfolding digitsFrom allDigits
 no-dash [] n e g = absurd (omega arith)
 no-dash (b ∷ f) n e g = never (sym (ap isNumberSaid (rw g at e)))
 
-module _ (s : List ℕ) (start value end : ℕ) (k : Scanning s start value true end) (n : NumberAt s start end) where
+-- the word of what is said
+said-word : (f : Field) → word f ≡ wordOf (saidOf f)
+unfolding word
+said-word (number n) = refl
+said-word dash = refl
+said-word other = refl
+
+-- a field that says this, before this byte
+field-before : (s : List ℕ) (start stop : ℕ) (said : Said) (end : ℕ) → FieldDone s start said end → end < length s → getD s end 0 ≡ stop
+    → FieldBefore s start stop (wordOf said) end
+field-before s start stop said end d h e =
+    record {
+      says = ap wordOf (d .0 .said) ∙ sym (said-word (fieldOf (fieldAt s start)));
+      ends = d .0 .end;
+      inside = h;
+      behind = e;
+    }
+
+module _ (s : List ℕ) (start value end stop : ℕ) (w : Stop stop) (k : Scanning s start value true end) (n : NumberAt s start end stop) where
   abbrev f : Scanned
   f = stopped value true end
 
   number-scanned : ScannedAt s start f
-  number-scanned =
-      ⊎-elim (scanned-comma s start value true end k (n .inside)) (scanned-LF s start value true end k (n .inside)) (n .stops)
+  number-scanned = scanned-stop s start value true end k (n .inside) stop w (n .behind)
 
-  pub number-done : FieldDone s start (Number value) end
+  number-done : FieldDone s start (Number value) end
   number-done =
       let sc = number-scanned in
       elim (ℕ-discrete end (start + 1)) [
@@ -288,13 +325,21 @@ module _ (s : List ℕ) (start value end : ℕ) (k : Scanning s start value true
         | no q ↦ done-many s start f sc (n .some) q (λ (z : getD s start 0 ≡ 48). q (n .leading z)) (Number value) refl
       ]
 
--- ---- a value that needs no cap
+  pub number-before : FieldBefore s start stop value end
+  number-before = field-before s start stop (Number value) end number-done (n .inside) (n .behind)
 
--- k digits make less than 10 ^ k
-pub digits-below : (value k d : ℕ) → value + 1 ≤ 10 ^ k → d ≤ 9 → value * 10 + d + 1 ≤ 10 ^ (k + 1)
-digits-below value k d h g =
-    let e : 10 ^ (k + 1) ≡ 10 ^ k * 10 = rw add-one (pow-suc 10 k) in
-    omega arith
-
-pub short-below : (k : ℕ) → k ≤ SHORT → 10 ^ k ≤ 1000000000000
-short-below k h = pow-le-pow-right (let p : 1 ≤ 10 = omega arith in p) h
+-- `-` before this byte
+pub dash-before : (s : List ℕ) (start stop : ℕ) → Stop stop → start + 1 < length s → getD s start 0 ≡ 45 → getD s (start + 1) 0 ≡ stop
+    → FieldBefore s start stop DASH (start + 1)
+dash-before s start stop w h d e =
+    let one = field-one s start stop w h e (omega arith) in
+    let long : length (fieldAt s start) ≡ 1 = rw (length-take, length-drop) (omega (arith, one)) in
+    let first : getD (fieldAt s start) 0 0 ≡ 45 =
+    rw (getD-take (fieldLength (drop start s)) (drop start s) 0 0 (omega (arith, one)), getD-drop)
+    (ap (λ (n : ℕ). getD s n 0) (let z : start + 0 ≡ start = omega arith in z) ∙ d) in
+    record {
+      says = sym (said-word (fieldOf (fieldAt s start)) ∙ ap wordOf (said-dash (fieldAt s start) long first));
+      ends = one;
+      inside = h;
+      behind = e;
+    }

@@ -1,15 +1,14 @@
 -- A field as the code finds it. Laws join it to Records; nothing here adds to document 01's meaning.
 use mathlib.Core.Path.{_≡_}
 use mathlib.Core.Bool.{Bool, true, cond, _&&_}
-use mathlib.Core.Logic.{_⊎_}
 use mathlib.Core.List.{List, [], _∷_}
-use Prim.Native.Nat.{ℕ, suc, _+_, min, _≤_, _<_}
+use Prim.Native.Nat.{ℕ, suc, _+_, _-_, min, _≤_, _<_}
 use lib.Dec.{eqb}
 use lib.ListN.{length, take, drop, getD}
 use Rattle.decimal.specs.Number.{allDigits, valueFrom}
 use Rattle.lines.specs.Lines.{LF, COMMA}
 use Rattle.lines.specs.Records.{Field, number, dash, other, fieldOf}
-use Rattle.lines.specs.Words.{CAP, DASH, OTHER}
+use Rattle.lines.specs.Words.{CAP, DASH, OTHER, word}
 use Rattle.fields.specs.declared.Said.{Said}
 use Rattle.fields.specs.declared.Said.the-variants.{Number, Dash, Other}
 use Rattle.fields.specs.declared.FieldRead.{FieldRead}
@@ -50,10 +49,6 @@ digitsSaid all value = cond all (Number value) Other
 unfoldable pub digitsFrom : (all : Bool) → (n : ℕ) → List ℕ → Said
 digitsFrom all n bytes = digitsSaid (all && allDigits bytes) (min (valueFrom n bytes) CAP)
 
--- as many digits stay below CAP
-abbrev pub SHORT : ℕ
-SHORT = 12
-
 -- what is known once the bytes from start to end are looked at: their value as digits, and whether all are
 pub record Scanning (sheet : List ℕ) (start value : ℕ) (all : Bool) (end : ℕ) : Type 0 where
   pub least : start ≤ end
@@ -62,11 +57,11 @@ pub record Scanning (sheet : List ℕ) (start value : ℕ) (all : Bool) (end : �
   pub ends : end + fieldLength (drop end sheet) ≡ start + fieldLength (drop start sheet)
   pub said : digitsFrom all value (fieldAt sheet end) ≡ digitsFrom true 0 (fieldAt sheet start)
 
--- bytes from start to end, if digits, are a number and the whole field
-pub record NumberAt (sheet : List ℕ) (start end : ℕ) : Type 0 where
+-- bytes from start to end, if digits, are a number and the whole field, and this byte stands behind it
+pub record NumberAt (sheet : List ℕ) (start end stop : ℕ) : Type 0 where
   pub some : end ≡ start → ⊥
   pub inside : end < length sheet
-  pub stops : (getD sheet end 0 ≡ COMMA) ⊎ (getD sheet end 0 ≡ LF)
+  pub behind : getD sheet end 0 ≡ stop
   pub leading : (getD sheet start 0 ≡ 48) → end ≡ start + 1
 
 -- the field that starts at a place of the sheet, its bytes taken for digits
@@ -84,3 +79,14 @@ pub record FieldBounds (sheet : List ℕ) (start : ℕ) (f : FieldRead) : Type 0
   pub least : start ≤ f .end
   pub most : f .end ≤ length sheet
   pub capped : Capped (f .said)
+
+-- the sheet's last byte is LF
+abbrev pub EndsInLF : (sheet : List ℕ) → Type 0
+EndsInLF sheet = getD sheet (length sheet - 1) 0 ≡ LF
+
+-- the field that starts at a place of the sheet says this word, ends here, and this byte stands behind it
+pub record FieldBefore (sheet : List ℕ) (start stop said end : ℕ) : Type 0 where
+  pub says : said ≡ word (fieldOf (fieldAt sheet start))
+  pub ends : end ≡ start + fieldLength (drop start sheet)
+  pub inside : end < length sheet
+  pub behind : getD sheet end 0 ≡ stop

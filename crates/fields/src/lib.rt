@@ -1,11 +1,13 @@
 // A field read from the sheet's bytes: what stands between two commas, or before the LF.
 ghost use mathlib.Core.Path.{_≡_};
 ghost use mathlib.Core.Bool.{true};
+ghost use mathlib.Core.Logic.{_⊎_};
 ghost use Prim.Native.Nat.{_+_, min, _≤_, _<_};
 ghost use lib.ListN.{length, drop};
 ghost use Rattle.decimal.specs.Number.{isDigit};
+ghost use Rattle.lines.specs.Lines.{LF, COMMA};
 ghost use Rattle.lines.specs.Words.{CAP};
-ghost use Rattle.fields.specs.Scan.{fieldLength, wordOf, SHORT, digitsSaid, Scanning, NumberAt, ScannedAt, FieldReadAt, FieldBounds};
+ghost use Rattle.fields.specs.Scan.{fieldLength, wordOf, digitsSaid, Scanning, NumberAt, ScannedAt, FieldReadAt, FieldBounds, EndsInLF, FieldBefore};
 use lines::DASH;
 use lines::OTHER;
 
@@ -38,8 +40,16 @@ struct Digits {
     end: usize,
 }
 
-// As many digits stay below CAP, whatever they are.
-const SHORT: usize = 12;
+// A short number or `-` as one word, and the place of the byte behind it; where `read` is false the field is another one, and must be read by all
+// its bytes.
+pub struct ShortRead {
+    pub read: bool,
+    pub word: u64,
+    pub end: usize,
+}
+
+// A value below this stays below CAP with one digit more.
+const SHORT: u64 = 100000000000;
 
 // A decimal digit, `0` to `9`.
 fn is_digit(byte: u8) -> bool
@@ -87,48 +97,6 @@ fn scan_field(s: &[u8], start: usize) -> Scanned
     Scanned { value, all, end }
 }
 
-// The digits that a field starts with, at most SHORT of them, whose value needs no cap.
-fn leading_digits(s: &[u8], start: usize) -> Digits
-    requires { ⌜ start + SHORT < length (now s) ⌝ }
-    ensures { λ r. ⌜ Scanning (now (s .entry)) start (r .value) true (r .end) ⌝ }
-    ensures bounded { λ r. ⌜ r .end ≤ start + SHORT ⌝ }
-{
-    let limit = start + SHORT;
-    let mut value: u64 = 0;
-    let mut end = start;
-    while end < limit {
-        let byte = s[end];
-        if is_digit(byte) {
-            value = value * 10 + wide(byte - 48);
-        } else {
-            return Digits { value, end };
-        }
-        end += 1;
-    }
-    Digits { value, end }
-}
-
-// Whether the digits from start to end are a number and the whole field. A first byte above `0` is a digit, where a comma or LF ends the field.
-fn is_number(s: &[u8], start: usize, end: usize) -> bool
-    requires { ⌜ (start ≤ end) × (end < length (now s)) ⌝ }
-    ensures { λ r. ⌜ (r ≡ true → NumberAt (now (s .entry)) start end) ⌝ }
-{
-    let stop = s[end];
-    if stop != b',' {
-        if stop != b'\n' {
-            return false;
-        }
-    }
-    let first = s[start];
-    if first <= b'0' {
-        if first != b'0' {
-            return false;
-        }
-        return end == start + 1;
-    }
-    true
-}
-
 // A number, if all bytes are digits.
 fn digits_said(f: Scanned) -> Said
     ensures { λ r. ⌜ r ≡ digitsSaid (f .all) (f .value) ⌝ }
@@ -140,8 +108,8 @@ fn digits_said(f: Scanned) -> Said
     }
 }
 
-// The field that starts here, whatever it says. A number is one or more decimal digits, however many, with no leading zero except `0` itself.
-fn read_any(s: &[u8], start: usize) -> FieldRead
+// The field that starts here. A number is one or more decimal digits, however many, with no leading zero except `0` itself.
+pub fn read_field(s: &[u8], start: usize) -> FieldRead
     requires { ⌜ start ≤ length (now s) ⌝ }
     ensures { λ r. ⌜ FieldReadAt (now (s .entry)) start r ⌝ }
     ensures bounded { λ r. ⌜ FieldBounds (now (s .entry)) start r ⌝ }
@@ -179,26 +147,6 @@ fn read_any(s: &[u8], start: usize) -> FieldRead
     }
 }
 
-// The field that starts here: a short number at once, any other, and one near the sheet's end, by all its bytes.
-pub fn read_field(s: &[u8], start: usize) -> FieldRead
-    requires { ⌜ start ≤ length (now s) ⌝ }
-    ensures { λ r. ⌜ FieldReadAt (now (s .entry)) start r ⌝ }
-    ensures bounded { λ r. ⌜ FieldBounds (now (s .entry)) start r ⌝ }
-{
-    if s.len() - start <= SHORT {
-        return read_any(s, start);
-    }
-    let digits = leading_digits(s, start);
-    let end = digits.end;
-    if is_number(s, start, end) {
-        return FieldRead {
-            said: Said::Number(digits.value),
-            end,
-        };
-    }
-    read_any(s, start)
-}
-
 // A field in one word.
 pub fn word_of(said: Said) -> u64
     ensures { λ r. ⌜ r ≡ wordOf said ⌝ }
@@ -210,19 +158,85 @@ pub fn word_of(said: Said) -> u64
     }
 }
 
-// The place behind the line's first field: at once where it is one byte before a comma, as every kind's letter is.
+// The place behind the line's first field.
 pub fn first_end(s: &[u8], start: usize) -> usize
     requires { ⌜ start ≤ length (now s) ⌝ }
     ensures { λ r. ⌜ r ≡ start + fieldLength (drop start (now (s .entry))) ⌝ }
     ensures bounded { λ r. ⌜ r ≤ length (now (s .entry)) ⌝ }
 {
-    if 1 < s.len() - start {
-        if s[start + 1] == b',' {
-            if b',' < s[start] {
-                return start + 1;
-            }
-        }
-    }
     let first = scan_field(s, start);
     first.end
+}
+
+// ---- short numbers, in a sheet whose last byte is LF: no digit is the last byte, and so no loop over digits asks for the sheet's end
+
+// The digits that a field starts with, as long as their value needs no cap.
+fn leading_digits(s: &[u8], start: usize) -> Digits
+    requires { ⌜ (start < length (now s)) × EndsInLF (now s) ⌝ }
+    ensures { λ r. ⌜ Scanning (now (s .entry)) start (r .value) true (r .end) ⌝ }
+    ensures bounded { λ r. ⌜ r .end < length (now (s .entry)) ⌝ }
+{
+    let mut value: u64 = 0;
+    let mut end = start;
+    while value < SHORT {
+        let byte = s[end];
+        if is_digit(byte) {
+            value = value * 10 + wide(byte - 48);
+        } else {
+            return Digits { value, end };
+        }
+        end += 1;
+    }
+    Digits { value, end }
+}
+
+// Whether the digits from start to end are a number and `stop` ends the field. A first byte above `0` is a digit, where a comma or LF ends the field.
+fn is_number(s: &[u8], start: usize, end: usize, stop: u8) -> bool
+    requires { ⌜ (start ≤ end) × (end < length (now s)) ⌝ }
+    requires { ⌜ (stop ≡ COMMA) ⊎ (stop ≡ LF) ⌝ }
+    ensures { λ r. ⌜ (r ≡ true → NumberAt (now (s .entry)) start end stop) ⌝ }
+{
+    if s[end] != stop {
+        return false;
+    }
+    let first = s[start];
+    if first <= b'0' {
+        if first != b'0' {
+            return false;
+        }
+        return end == start + 1;
+    }
+    true
+}
+
+// The field that starts here, if it is a short number and `stop` stands behind it.
+pub fn short_number(s: &[u8], start: usize, stop: u8) -> ShortRead
+    requires { ⌜ (start < length (now s)) × EndsInLF (now s) ⌝ }
+    requires { ⌜ (stop ≡ COMMA) ⊎ (stop ≡ LF) ⌝ }
+    ensures { λ r. ⌜ (r .read ≡ true → FieldBefore (now (s .entry)) start stop (r .word) (r .end)) ⌝ }
+{
+    let digits = leading_digits(s, start);
+    let end = digits.end;
+    ShortRead {
+        read: is_number(s, start, end, stop),
+        word: digits.value,
+        end,
+    }
+}
+
+// The same, or `-`.
+pub fn short_word(s: &[u8], start: usize, stop: u8) -> ShortRead
+    requires { ⌜ (start < length (now s)) × EndsInLF (now s) ⌝ }
+    requires { ⌜ (stop ≡ COMMA) ⊎ (stop ≡ LF) ⌝ }
+    ensures { λ r. ⌜ (r .read ≡ true → FieldBefore (now (s .entry)) start stop (r .word) (r .end)) ⌝ }
+{
+    if s[start] == b'-' {
+        let end = start + 1;
+        return ShortRead {
+            read: s[end] == stop,
+            word: DASH,
+            end,
+        };
+    }
+    short_number(s, start, stop)
 }

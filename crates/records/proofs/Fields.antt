@@ -1,21 +1,25 @@
 -- The fields of a line, one after the other, over places of the sheet. Assumes nothing.
 use mathlib.Core.Path.{_≡_, refl, sym, ap, ap₂, _∙_}
-use mathlib.Core.Bool.{Bool, true, false, cond}
-use mathlib.Core.List.{List, [], _∷_, map}
+use mathlib.Core.Bool.{Bool, true, false, cond, _&&_}
+use mathlib.Core.Logic.{inl}
+use mathlib.Core.List.{List, [], _∷_, _++_, map}
 use Prim.Native.Nat.{ℕ, suc, _+_, _-_, _≤_, _<_}
 use native.Mathlib.Nat.{lt-of-not-le}
 use native.Mathlib.Decide.{decLe}
 use native.Mathlib.Numerals.{add-one}
 use native.Mathlib.Omega.{arith}
-use borrow.Author.Tests.{ne-eqb, eqb-true, lt-ltb, le-ltb, ltb-true}
+use borrow.Author.Tests.{eq-eqb, ne-eqb, eqb-true, lt-ltb, le-ltb, ltb-true}
 use lib.Dec.{eqb, ltb}
 use lib.ListN.{length, take, drop, set, getD, replicate, length-take, length-drop, length-set, length-map}
 use lib.Seq.{sets, set-out, drop-cons, drop-drop, getD-drop}
+use Rattle.decimal.proofs.Bools.{and-both}
 use Rattle.lines.specs.Lines.{LF, COMMA, beforeField, fieldsOf}
 use Rattle.lines.specs.Records.{Field, number, dash, other, kindOf, kindIn, fieldOf, recordOf}
 use Rattle.lines.specs.Words.{word, words, lineLength, lineAt, ReadAt}
-use Rattle.fields.specs.Scan.{fieldLength, fieldAt, saidOf, wordOf, FieldReadAt}
-use Rattle.records.specs.Places.{commaAt, stored}
+use Rattle.fields.specs.Scan.{fieldLength, fieldAt, saidOf, wordOf, FieldReadAt, EndsInLF}
+use Rattle.fields.proofs.Scanning.{field-one, not-last}
+use Rattle.records.specs.Places.{commaAt, stored, fieldEnd, FieldsBefore, firstWord, otherWords, ShortFieldsAt}
+use Rattle.records.specs.declared.ShortFields.{ShortFields}
 use Rattle.lines.specs.declared.Kind.{Kind}
 use Rattle.lines.specs.declared.Kind.the-variants.{Unknown}
 use Rattle.fields.specs.declared.FieldRead.{FieldRead}
@@ -197,19 +201,25 @@ pub none-read : (s : List ℕ) (first : ℕ) → FieldsRead s first (replicate 8
 none-read s first = record { size = refl; words = refl; counted = omega arith; ended = refl }
 
 module _ (s : List ℕ) (first : ℕ) (held : List ℕ) (count end : ℕ) (r : FieldsRead s first held count end) where
+  -- one field more, which says this word and ends here
+  word-read : (said e : ℕ) → commaAt s end ≡ true → said ≡ word (fieldOf (fieldAt s (end + 1))) → e ≡ end + 1 + fieldLength (drop (end + 1) s)
+      → FieldsRead s first (set held count said) (suc count) e
+  word-read said e h w k =
+      let g : end + 1 ≤ length s = omega (arith, comma-in s end h) in
+      let t : nextFields s end ≡ fieldAt s (end + 1) ∷ nextFields s e = more-fields s end h ∙ first-field s (end + 1) e g k in
+      rw w
+      record {
+        size = length-set held count _ ∙ r .size;
+        words = rw t at (r .words);
+        counted = omega (arith, ap length t, r .counted);
+        ended = sym (first-end s (end + 1) e g k) ∙ sym (more-end s end h) ∙ r .ended;
+      }
+
   pub one-read : (f : FieldRead) → commaAt s end ≡ true → FieldReadAt s (end + 1) f
       → FieldsRead s first (stored held count (wordOf (f .said))) (count + 1) (f .end)
   one-read f h k =
-      let g : end + 1 ≤ length s = omega (arith, comma-in s end h) in
-      let t : nextFields s end ≡ fieldAt s (end + 1) ∷ nextFields s (f .end) = more-fields s end h ∙ first-field s (end + 1) (f .end) g (k .end) in
-      let w : wordOf (f .said) ≡ word (fieldOf (fieldAt s (end + 1))) = ap wordOf (k .said) ∙ word-said (fieldOf (fieldAt s (end + 1))) in
-      rw (store-set held count (wordOf (f .said)) (r .size), w)
-      record {
-        size = length-set held count _ ∙ r .size;
-        words = rw (add-one count) (rw t at (r .words));
-        counted = omega (arith, ap length t, r .counted);
-        ended = sym (first-end s (end + 1) (f .end) g (k .end)) ∙ sym (more-end s end h) ∙ r .ended;
-      }
+      rw (store-set held count (wordOf (f .said)) (r .size), add-one count)
+      (word-read (wordOf (f .said)) (f .end) h (ap wordOf (k .said) ∙ word-said (fieldOf (fieldAt s (end + 1)))) (k .end))
 
   pub all-read : (start : ℕ) (kind : Kind) → start ≤ length s → first ≡ start + fieldLength (drop start s)
       → kind ≡ kindIn (take (first - start) (drop start s)) → commaAt s end ≡ false
@@ -228,3 +238,91 @@ module _ (s : List ℕ) (first : ℕ) (held : List ℕ) (count end : ℕ) (r : F
         words = rw q w;
         end = d;
       }
+
+-- ---- fields that are read one by one
+
+comma-at : (s : List ℕ) (e : ℕ) → e < length s → getD s e 0 ≡ COMMA → commaAt s e ≡ true
+comma-at s e h c = simp (lt-ltb e (length s) h, eq-eqb (getD s e 0) COMMA c)
+
+none-at : (s : List ℕ) (e : ℕ) → e < length s → getD s e 0 ≡ LF → commaAt s e ≡ false
+none-at s e h c = simp (lt-ltb e (length s) h, ne-eqb (getD s e 0) COMMA (λ z. omega arith))
+
+-- fields before a comma and the fields behind it
+pub before-append : (s : List ℕ) (stop next : ℕ) (more : List ℕ) (end : ℕ) (others : List ℕ) (start first middle : ℕ)
+    → FieldsBefore s start COMMA first others middle → FieldsBefore s (middle + 1) stop next more end
+    → FieldsBefore s start stop first (others ++ next ∷ more) end
+before-append s stop next more end [] start first middle a b =
+    let e : middle ≡ fieldEnd s start = a .ends in
+    (rw e at a, rw e at b)
+before-append s stop next more end (v ∷ vs) start first middle a b =
+    (a .0, before-append s stop next more end vs (fieldEnd s start + 1) v middle (a .1) b)
+
+-- the place behind fields that are read, and the byte there
+pub before-inside : (s : List ℕ) (stop end : ℕ) (others : List ℕ) (start first : ℕ) → FieldsBefore s start stop first others end
+    → (end < length s) × (getD s end 0 ≡ stop)
+before-inside s stop end [] start first b = (b .inside, b .behind)
+before-inside s stop end (v ∷ vs) start first b = before-inside s stop end vs (fieldEnd s start + 1) v (b .1)
+
+-- a field follows the comma behind them
+pub before-next : (s : List ℕ) (end : ℕ) (others : List ℕ) (start first : ℕ) → EndsInLF s → FieldsBefore s start COMMA first others end → end + 1 < length s
+before-next s end others start first l b =
+    let k = before-inside s COMMA end others start first b in
+    not-last s end l (k .0) (λ e. omega (arith, k .1))
+
+-- fields that follow those read so far
+before-read : (s : List ℕ) (stop e : ℕ) (line : ℕ) (others : List ℕ) (first : ℕ) (held : List ℕ) (count end : ℕ) → FieldsRead s line held count end
+    → commaAt s end ≡ true → FieldsBefore s (end + 1) stop first others e
+    → FieldsRead s line (sets held count (first ∷ others)) (count + suc (length others)) e
+before-read s stop e line [] first held count end r h b =
+    let n : count + 1 ≡ suc count = omega arith in
+    rw n (word-read s line held count end r first e h (b .says) (b .ends))
+before-read s stop e line (v ∷ vs) first held count end r h b =
+    let here = b .0 in
+    let n : count + suc (suc (length vs)) ≡ suc count + suc (length vs) = omega arith in
+    rw n
+    (before-read s stop e line vs v (set held count first) (suc count) (fieldEnd s (end + 1))
+    (word-read s line held count end r first (fieldEnd s (end + 1)) h (here .says) (here .ends))
+    (comma-at s (fieldEnd s (end + 1)) (here .inside) (here .behind)) (b .1))
+
+-- a byte above a comma and a comma behind it, in a sheet that ends in LF
+pub record LetterAt (s : List ℕ) (start : ℕ) : Type 0 where
+  pub ends : EndsInLF s
+  pub letter : COMMA < getD s start 0
+  pub comma : getD s (start + 1) 0 ≡ COMMA
+  pub inside : start + 1 < length s
+  pub next : start + 2 < length s
+
+pub letter-at : (s : List ℕ) (start : ℕ) → ltb start (length s - 1) && ltb COMMA (getD s start 0) ≡ true
+    → eqb (getD s (length s - 1) 0) LF && eqb (getD s (start + 1) 0) COMMA ≡ true → LetterAt s start
+letter-at s start e f =
+    let a = and-both (ltb start (length s - 1)) (ltb COMMA (getD s start 0)) e in
+    let b = and-both (eqb (getD s (length s - 1) 0) LF) (eqb (getD s (start + 1) 0) COMMA) f in
+    let l : EndsInLF s = eqb-true _ _ (b .0) in
+    let c : getD s (start + 1) 0 ≡ COMMA = eqb-true _ _ (b .1) in
+    let h : start < length s - 1 = ltb-true _ _ (a .0) in
+    let i : start + 1 < length s = omega arith in
+    let n = not-last s (start + 1) l i (λ z. omega (arith, c)) in
+    record { ends = l; letter = ltb-true _ _ (a .1); comma = c; inside = i; next = omega (arith, n) }
+
+-- a letter, a comma and fields up to LF are a line
+pub short-line : (s : List ℕ) (start : ℕ) (f : ShortFields) → LetterAt s start → ShortFieldsAt s (start + 2) f
+    → ReadAt s start (record { kind = kindOf (getD s start 0); count = f .count; words = f .words; end = f .end })
+    × ((start ≤ f .end) × (f .end ≤ length s))
+short-line s start f a k =
+    let h = a .inside in
+    let c = a .comma in
+    let l = a .letter in
+    let first = field-one s start COMMA (inl refl) h c l in
+    let two : start + 1 + 1 ≡ start + 2 = omega arith in
+    let stop = before-inside s LF (f .end) (otherWords f) (start + 2) (firstWord f) (k .before) in
+    let one : start + 1 - start ≡ 1 = omega arith in
+    let w : sets (replicate 8 0) 0 (firstWord f ∷ otherWords f) ≡ f .words = sym (k .words) in
+    let n : 0 + suc (length (otherWords f)) ≡ f .count = omega (arith, k .count) in
+    let r : FieldsRead s (start + 1) (f .words) (f .count) (f .end) =
+    rw (w, n) at
+    (before-read s LF (f .end) (start + 1) (otherWords f) (firstWord f) (replicate 8 0) 0 (start + 1) (none-read s (start + 1))
+    (comma-at s (start + 1) h c) (rw two (k .before))) in
+    let line =
+    all-read s (start + 1) (f .words) (f .count) (f .end) r start (kindOf (getD s start 0)) (omega arith) first
+    (kind-one s start (start + 1) (omega arith) (omega arith) one) (none-at s (f .end) (stop .0) (stop .1)) in
+    (line, (omega (arith, line .end), omega (arith, stop .0)))

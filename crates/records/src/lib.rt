@@ -1,13 +1,19 @@
 // A line read from the sheet's bytes: its kind's letter, then its fields; and the offending line had back.
 ghost use mathlib.Core.Path.{_≡_};
-ghost use Prim.Native.Nat.{_+_, _-_, _≤_};
+ghost use mathlib.Core.Bool.{true};
+ghost use mathlib.Core.Logic.{_⊎_};
+ghost use mathlib.Core.List.{_∷_, []};
+ghost use Prim.Native.Nat.{_+_, _-_, _≤_, _<_};
 ghost use lib.ListN.{length, take, drop};
-ghost use Rattle.lines.specs.Lines.{linesOf, lineBytes, lineStart};
+ghost use Rattle.lines.specs.Lines.{LF, COMMA, linesOf, lineBytes, lineStart};
 ghost use Rattle.lines.specs.Records.{kindOf, kindIn};
 ghost use Rattle.lines.specs.Words.{lineLength, ReadAt};
-ghost use Rattle.records.specs.Places.{commaAt, stored, PlaceOf};
+ghost use Rattle.fields.specs.Scan.{EndsInLF};
+ghost use Rattle.records.specs.Places.{commaAt, stored, usualFields, FieldsBefore, ShortFieldsAt, PlaceOf};
 use fields::first_end;
 use fields::read_field;
+use fields::short_number;
+use fields::short_word;
 use fields::word_of;
 use lines::Kind;
 use lines::LineRead;
@@ -68,8 +74,8 @@ fn store(words: &mut [u64; WORDS], k: usize, word: u64)
     }
 }
 
-// The line that starts here.
-pub fn read_line(s: &[u8], start: usize) -> LineRead
+// The line that starts here, whatever its fields are.
+fn read_any_line(s: &[u8], start: usize) -> LineRead
     requires { ⌜ start ≤ length (now s) ⌝ }
     ensures { λ r. ⌜ ReadAt (now (s .entry)) start r ⌝ }
     ensures bounded { λ r. ⌜ (start ≤ r .end) × (r .end ≤ length (now (s .entry))) ⌝ }
@@ -91,6 +97,221 @@ pub fn read_line(s: &[u8], start: usize) -> LineRead
         words,
         end,
     }
+}
+
+// ---- a line of short numbers, in a sheet whose last byte is LF: its fields are read one by one, with no loop over them
+
+// Two words, and the place of the byte behind the second.
+struct TwoRead {
+    read: bool,
+    first: u64,
+    second: u64,
+    end: usize,
+}
+
+// The fields of a line, and the place of its LF; where `read` is false they are other than short numbers.
+struct ShortFields {
+    read: bool,
+    count: usize,
+    words: [u64; WORDS],
+    end: usize,
+}
+
+// Two numbers, `stop` behind the second.
+fn two_numbers(s: &[u8], start: usize, stop: u8) -> TwoRead
+    requires { ⌜ (start < length (now s)) × EndsInLF (now s) ⌝ }
+    requires { ⌜ (stop ≡ COMMA) ⊎ (stop ≡ LF) ⌝ }
+    ensures { λ r. ⌜ (r .read ≡ true → FieldsBefore (now (s .entry)) start stop (r .first) (r .second ∷ []) (r .end)) ⌝ }
+{
+    let a = short_number(s, start, b',');
+    let end = a.end;
+    if a.read {
+        let b = short_number(s, end + 1, stop);
+        return TwoRead {
+            read: b.read,
+            first: a.word,
+            second: b.word,
+            end: b.end,
+        };
+    }
+    TwoRead {
+        read: false,
+        first: 0,
+        second: 0,
+        end,
+    }
+}
+
+// Two fields that are numbers or `-`, a comma behind the second.
+fn two_words(s: &[u8], start: usize) -> TwoRead
+    requires { ⌜ (start < length (now s)) × EndsInLF (now s) ⌝ }
+    ensures { λ r. ⌜ (r .read ≡ true → FieldsBefore (now (s .entry)) start COMMA (r .first) (r .second ∷ []) (r .end)) ⌝ }
+{
+    let a = short_word(s, start, b',');
+    let end = a.end;
+    if a.read {
+        let b = short_word(s, end + 1, b',');
+        return TwoRead {
+            read: b.read,
+            first: a.word,
+            second: b.word,
+            end: b.end,
+        };
+    }
+    TwoRead {
+        read: false,
+        first: 0,
+        second: 0,
+        end,
+    }
+}
+
+// Fields that are not read here.
+fn no_fields(start: usize) -> ShortFields
+    ensures { λ r. ⌜ (r .read ≡ true → ⊥) ⌝ }
+{
+    ShortFields {
+        read: false,
+        count: 0,
+        words: [0; WORDS],
+        end: start,
+    }
+}
+
+fn two_fields(s: &[u8], start: usize) -> ShortFields
+    requires { ⌜ (start < length (now s)) × EndsInLF (now s) ⌝ }
+    ensures { λ r. ⌜ (r .read ≡ true → ShortFieldsAt (now (s .entry)) start r) ⌝ }
+{
+    let x = two_numbers(s, start, b'\n');
+    ShortFields {
+        read: x.read,
+        count: 2,
+        words: [x.first, x.second, 0, 0, 0, 0, 0, 0],
+        end: x.end,
+    }
+}
+
+fn three_fields(s: &[u8], start: usize) -> ShortFields
+    requires { ⌜ (start < length (now s)) × EndsInLF (now s) ⌝ }
+    ensures { λ r. ⌜ (r .read ≡ true → ShortFieldsAt (now (s .entry)) start r) ⌝ }
+{
+    let x = two_numbers(s, start, b',');
+    if x.read {
+        let y = short_number(s, x.end + 1, b'\n');
+        return ShortFields {
+            read: y.read,
+            count: 3,
+            words: [x.first, x.second, y.word, 0, 0, 0, 0, 0],
+            end: y.end,
+        };
+    }
+    no_fields(start)
+}
+
+fn four_fields(s: &[u8], start: usize) -> ShortFields
+    requires { ⌜ (start < length (now s)) × EndsInLF (now s) ⌝ }
+    ensures { λ r. ⌜ (r .read ≡ true → ShortFieldsAt (now (s .entry)) start r) ⌝ }
+{
+    let x = two_numbers(s, start, b',');
+    if x.read {
+        let y = two_numbers(s, x.end + 1, b'\n');
+        return ShortFields {
+            read: y.read,
+            count: 4,
+            words: [x.first, x.second, y.first, y.second, 0, 0, 0, 0],
+            end: y.end,
+        };
+    }
+    no_fields(start)
+}
+
+// Of a source stream a and b may be `-`.
+fn eight_fields(s: &[u8], start: usize) -> ShortFields
+    requires { ⌜ (start < length (now s)) × EndsInLF (now s) ⌝ }
+    ensures { λ r. ⌜ (r .read ≡ true → ShortFieldsAt (now (s .entry)) start r) ⌝ }
+{
+    let x = two_numbers(s, start, b',');
+    if x.read {
+        let y = two_numbers(s, x.end + 1, b',');
+        if y.read {
+            let z = two_words(s, y.end + 1);
+            if z.read {
+                let u = two_numbers(s, z.end + 1, b'\n');
+                return ShortFields {
+                    read: u.read,
+                    count: 8,
+                    words: [
+                        x.first,
+                        x.second,
+                        y.first,
+                        y.second,
+                        z.first,
+                        z.second,
+                        u.first,
+                        u.second,
+                    ],
+                    end: u.end,
+                };
+            }
+        }
+    }
+    no_fields(start)
+}
+
+// How many fields a line of this kind has after its first where it keeps the rules.
+fn usual_fields(kind: Kind) -> usize
+    ensures { λ r. ⌜ r ≡ usualFields kind ⌝ }
+{
+    match kind {
+        Kind::Process => 2,
+        Kind::SourceStream => 8,
+        Kind::Heat => 4,
+        Kind::WasteGas => 3,
+        Kind::Power => 4,
+        Kind::BoughtPrecursor => 4,
+        Kind::OwnGood => 3,
+        Kind::Unknown => 0,
+    }
+}
+
+// So many fields.
+fn short_fields(s: &[u8], start: usize, count: usize) -> ShortFields
+    requires { ⌜ (start < length (now s)) × EndsInLF (now s) ⌝ }
+    ensures { λ r. ⌜ (r .read ≡ true → ShortFieldsAt (now (s .entry)) start r) ⌝ }
+{
+    match count {
+        2 => two_fields(s, start),
+        3 => three_fields(s, start),
+        4 => four_fields(s, start),
+        8 => eight_fields(s, start),
+        _ => no_fields(start),
+    }
+}
+
+// The line that starts here: read at once where it is a letter and as many short numbers as its kind has, else by all its bytes.
+pub fn read_line(s: &[u8], start: usize) -> LineRead
+    requires { ⌜ start < length (now s) ⌝ }
+    ensures { λ r. ⌜ ReadAt (now (s .entry)) start r ⌝ }
+    ensures bounded { λ r. ⌜ (start ≤ r .end) × (r .end ≤ length (now (s .entry))) ⌝ }
+{
+    let last = s.len() - 1;
+    let letter = s[start];
+    if (start < last) & (b',' < letter) {
+        if (s[last] == b'\n') & (s[start + 1] == b',') {
+            let kind = kind_of(letter);
+            let f = short_fields(s, start + 2, usual_fields(kind));
+            if f.read {
+                let words = f.words;
+                return LineRead {
+                    kind,
+                    count: f.count,
+                    words,
+                    end: f.end,
+                };
+            }
+        }
+    }
+    read_any_line(s, start)
 }
 
 // ---- the offending line had back

@@ -1,46 +1,55 @@
 use borrow.Author.Needs.{needs}
-use Rattle.fields.proofs.Scanning.{number-done}
+use Rattle.fields.proofs.Scanning.{done-none, done-dash, done-one, done-zero, done-many}
 use Rattle.fields.proofs.read_field.Statement.{statement}
 use Rattle.fields.proofs.read_field.Tie as tie
-use Rattle.fields.proofs.read_field.Reads as reads
-use Rattle.fields.proofs.read_field.Lts as lts
-use Rattle.fields.proofs.is_number.Reads as is-number-reads
-use Rattle.fields.proofs.leading_digits.Reads as leading-digits-reads
-use Rattle.fields.proofs.read_any.Reads as read-any-reads
 
-sub-if1 : tie.Need-sub-if1
-sub-if1 c = search needs
-
-read-any-requires : tie.Need-read-any-requires
-read-any-requires c κs = search needs
+scan-field-requires : tie.Need-scan-field-requires
+scan-field-requires c κs = search needs
 
 returns : tie.Need-returns
-returns c = search needs
+returns c = done-none _ _ _ (c .before .scan-field .ensures) (c .if1 .taken)
 
-leading-digits-requires : tie.Need-leading-digits-requires
-leading-digits-requires c κs = search needs
+shared-slice-read-first : tie.Need-shared-slice-read-first
+shared-slice-read-first c = search needs
 
-is-number-requires : tie.Need-is-number-requires
-is-number-requires c κs = search needs
+add-if2 : tie.Need-add-if2
+add-if2 c = search needs
 
 returns-2 : tie.Need-returns-2
-returns-2 c = number-done _ _ _ _ (c .before .before .leading-digits .ensures .0) (c .before .is-number .ensures (c .if2 .taken))
+returns-2 c = done-dash _ _ _ (c .before .before .before .before .scan-field .ensures) (c .before .if2 .taken) (c .if3 .taken)
 
-read-any-requires-2 : tie.Need-read-any-requires-2
-read-any-requires-2 c κs = search needs
+digits-said-requires : tie.Need-digits-said-requires
+digits-said-requires c κs = search needs
 
 returns-3 : tie.Need-returns-3
-returns-3 c = search needs
+returns-3 c =
+    let k = c .before .before in
+    done-one _ _ _ (k .before .before .before .scan-field .ensures) (k .if2 .taken) (c .before .if3 .left) _ (c .digits-said .ensures)
+
+returns-4 : tie.Need-returns-4
+returns-4 c =
+    let k = c .before in
+    done-zero _ _ _ (k .before .before .before .scan-field .ensures) (k .before .before .if1 .left) (k .if2 .left) (c .if4 .taken)
+
+digits-said-requires-2 : tie.Need-digits-said-requires-2
+digits-said-requires-2 c κs = search needs
+
+returns-5 : tie.Need-returns-5
+returns-5 c =
+    let k = c .before .before in
+    done-many _ _ _ (k .before .before .before .scan-field .ensures) (k .before .before .if1 .left) (k .if2 .left) (c .before .if4 .left) _ (c .digits-said2 .ensures)
 
 pub read-field-spec : {M : Type 1} → statement M
 read-field-spec =
     tie.close
     (tie.spec
-    sub-if1
-    read-any-requires
+    scan-field-requires
     returns
-    leading-digits-requires
-    is-number-requires
+    shared-slice-read-first
+    add-if2
     returns-2
-    read-any-requires-2
-    returns-3)
+    digits-said-requires
+    returns-3
+    returns-4
+    digits-said-requires-2
+    returns-5)

@@ -1,91 +1,78 @@
-use mathlib.Core.Path.{_≡_, sym, _∙_}
-use mathlib.Core.Bool.{true}
-use Prim.Native.Nat.{_-_, _≤_, _<_}
-use borrow.Author.Needs.{needs}
+use Prim.Native.Nat.{_-_, _<_}
 use native.Mathlib.Omega.{arith}
+use borrow.Author.Needs.{needs}
+use borrow.Author.Tests.{ltb-true}
 use lib.ListN.{length}
-use Rattle.records.specs.Places.{commaAt}
-use Rattle.records.proofs.Fields.{comma-in, FieldsRead, none-read, one-read, all-read}
+use Rattle.decimal.proofs.Bools.{and-both}
+use Rattle.records.proofs.Fields.{letter-at, short-line}
 use Rattle.records.proofs.read_line.Statement.{statement}
 use Rattle.records.proofs.read_line.Tie as tie
+use Rattle.records.proofs.read_line.Reads as reads
+use Rattle.records.proofs.read_line.Lts as lts
+use Rattle.records.proofs.kind_of.Reads as kind-of-reads
+use Rattle.records.proofs.read_any_line.Reads as read-any-line-reads
+use Rattle.records.proofs.short_fields.Reads as short-fields-reads
+use Rattle.records.proofs.usual_fields.Reads as usual-fields-reads
 
-abbrev Inv-loop : tie.InvT-loop
-Inv-loop s start end₀ kind words₀ count₀ end words count = (start ≤ end) × (end ≤ length s) × (count ≤ end) × FieldsRead s end₀ words count end
+sub-last : tie.Need-sub-last
+sub-last c = search needs
 
-abbrev μ-loop : tie.MeasureT-loop
-μ-loop s start end₀ kind words₀ count₀ end words count = length s - end
+shared-slice-read-letter : tie.Need-shared-slice-read-letter
+shared-slice-read-letter c = search needs
 
-first-end-requires : tie.Need-first-end-requires Inv-loop μ-loop
-first-end-requires c κs = search needs
+shared-slice-read-if2 : tie.Need-shared-slice-read-if2
+shared-slice-read-if2 c = search needs
 
-kind-in-requires : tie.Need-kind-in-requires Inv-loop μ-loop
-kind-in-requires c κs = search needs
+add-if2 : tie.Need-add-if2
+add-if2 c = search needs
 
-loop-holds : tie.Need-loop-holds Inv-loop μ-loop
-loop-holds c = (search needs, search needs, search needs, none-read _ _)
+shared-slice-read-if2-2 : tie.Need-shared-slice-read-if2-2
+shared-slice-read-if2-2 c =
+    let s = c .before .before .before .before .before .args in
+    let h : s .start < length (s .s .now) - 1 = ltb-true _ _ (and-both _ _ (c .before .before .if1 .taken) .0) in
+    omega arith
 
-comma-at-requires : tie.Need-comma-at-requires Inv-loop μ-loop
-comma-at-requires c κs = search needs
+kind-of-requires : tie.Need-kind-of-requires
+kind-of-requires c κs = search needs
 
--- a turn: a comma stands at end
-comma : (c : tie.Then1 Inv-loop μ-loop) → commaAt (c .before .before .before .before .before .before .args .s .now) (c .before .before .loop .end) ≡ true
-comma c = sym (c .before .comma-at .ensures) ∙ c .if1 .taken
+add-short-fields : tie.Need-add-short-fields
+add-short-fields c = search needs
 
-inside : (c : tie.Then1 Inv-loop μ-loop) → c .before .before .loop .end < length (c .before .before .before .before .before .before .args .s .now)
-inside c = comma-in (c .before .before .before .before .before .before .args .s .now) (c .before .before .loop .end) (comma c)
+usual-fields-requires : tie.Need-usual-fields-requires
+usual-fields-requires c κs = search needs
 
-add-read-field : tie.Need-add-read-field Inv-loop μ-loop
-add-read-field c = let h = inside c in omega arith
+short-fields-requires : tie.Need-short-fields-requires
+short-fields-requires c κs =
+    let s = c .before .before .before .before .before .before .before .before .args in
+    let a = letter-at (s .s .now) (s .start) (c .before .before .before .before .before .if1 .taken) (c .before .before .if2 .taken) in
+    (a .next, a .ends)
 
-read-field-requires : tie.Need-read-field-requires Inv-loop μ-loop
-read-field-requires c κs = let h = inside c in omega arith
-
-word-of-requires : tie.Need-word-of-requires Inv-loop μ-loop
-word-of-requires c κs = search needs
-
-store-requires : tie.Need-store-requires Inv-loop μ-loop
-store-requires c κs = search needs
-
-add-count : tie.Need-add-count Inv-loop μ-loop
-add-count c = search needs
-
-loop-less : tie.Need-loop-less Inv-loop μ-loop
-loop-less c = search needs
-
-loop-again : tie.Need-loop-again Inv-loop μ-loop
-loop-again c =
-    let f = c .before .before .before in
-    let h = inside (f .before) in (
-      omega arith,
-      omega arith,
-      omega arith,
-      rw (c .store .ensures, c .before .word-of .ensures)
-          (one-read _ _ _ _ _ (f .before .before .before .loop .inv .3) _ (comma (f .before)) (f .read-field .ensures .0)),
-    )
-
-returns : tie.Need-returns Inv-loop μ-loop
+returns : tie.Need-returns
 returns c =
-    let l = c .before .before in
-    let f = l .before .before in (
-      all-read _ _ _ _ _ (l .loop .inv .3) _ _ (f .before .before .pre) (f .first-end .ensures .0) (l .before .kind-in .ensures) (sym (c .before .comma-at .ensures) ∙ c .if1 .left),
-      search needs,
-    )
+    let k = c .before .before .before .before in
+    let s = c .before .before .before .before .before .before .before .before .before .before .before .args in
+    let a = letter-at (s .s .now) (s .start) (k .before .before .before .before .if1 .taken) (k .before .if2 .taken) in
+    rw (k .kind-of .ensures) (short-line _ _ _ a (c .before .before .short-fields .ensures (c .before .if3 .taken)))
+
+read-any-line-requires : tie.Need-read-any-line-requires
+read-any-line-requires c κs = search needs
+
+returns-2 : tie.Need-returns-2
+returns-2 c = search needs
 
 pub read-line-spec : {M : Type 1} → statement M
 read-line-spec =
     tie.close
     (tie.spec
-    Inv-loop
-    μ-loop
-    first-end-requires
-    kind-in-requires
-    loop-holds
-    comma-at-requires
-    add-read-field
-    read-field-requires
-    word-of-requires
-    store-requires
-    add-count
-    loop-less
-    loop-again
-    returns)
+    sub-last
+    shared-slice-read-letter
+    shared-slice-read-if2
+    add-if2
+    shared-slice-read-if2-2
+    kind-of-requires
+    add-short-fields
+    usual-fields-requires
+    short-fields-requires
+    returns
+    read-any-line-requires
+    returns-2)

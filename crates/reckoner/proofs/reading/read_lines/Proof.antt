@@ -41,7 +41,7 @@ loop-holds c =
     rw (c .nothing-moved .ensures) (reading-start (c .before .before .args .s .now) (c .before .before .args .kilos .now) (c .before .before .pre))
 
 read-line-requires : tie.Need-read-line-requires Inv-loop μ-loop
-read-line-requires c κs = c .before .loop .inv .at-in
+read-line-requires c κs = c .loop-test .taken
 
 line-refusal-requires : tie.Need-line-refusal-requires Inv-loop μ-loop
 line-refusal-requires c κs = search needs
