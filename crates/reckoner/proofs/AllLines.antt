@@ -5,11 +5,13 @@ use mathlib.Core.Bool.{Bool, true, false, cond, not}
 use mathlib.Core.List.{List, [], _∷_, _++_, map}
 use Prim.Native.Nat.{ℕ, suc, _+_, _*_, _≤_, _<_}
 use native.Mathlib.Omega.{arith}
-use borrow.Author.Tests.{ltb-true}
+use borrow.Author.Tests.{ltb-true, eq-eqb, ne-eqb}
 use lib.Dec.{eqb}
 use lib.ListN.{length, getD, drop, replicate}
 use Rattle.lines.specs.Lines.{linesOf}
-use Rattle.lines.specs.Records.{Record, recordOf, recordsOf}
+use Rattle.lines.specs.Records.{Record, letter, recordOf, recordsOf}
+use Rattle.lines.specs.declared.Kind.{Kind}
+use Rattle.lines.specs.declared.Kind.the-variants.{Process, SourceStream, Heat, WasteGas, Power, BoughtPrecursor, OwnGood, Unknown}
 use Rattle.lines.specs.Words.{ReadAt, lineAt, lineLength, words}
 use Rattle.lines.specs.declared.LineRead.{LineRead}
 use Rattle.records.proofs.NextLine.{lines-step, lines-done, line-ended}
@@ -18,7 +20,7 @@ use Rattle.ledger.specs.Ledger.{Small}
 use Rattle.quantity.specs.Limits.{limits}
 use Rattle.sheet.specs.Refusals.{sumOf}
 use Rattle.sheet.specs.Verdict.{Check, accepted, refused, firstOf, lineChecks, linesChecks}
-use Rattle.judge.specs.Code.{lineNumber}
+use Rattle.judge.specs.Code.{shapeNumber, fieldsNumber, lineNumber}
 use Rattle.sheet.proofs.First.{accepted-passes}
 use Rattle.sheet.proofs.Passed.{line-fine}
 use Rattle.sheet.proofs.Held.{GoodAsked}
@@ -147,3 +149,55 @@ pub reading-verdict : (sheet : List ℕ) (at : ℕ) (w : Works) (kilos : List �
     → firstOf (linesChecks limits [] (linesOf sheet)) ≡ accepted
 unfolding linesChecks firstOf
 reading-verdict sheet at w kilos rd h = sym (rd .verdict) ∙ rw (lines-done sheet at h)
+
+-- ---- line 1
+
+letter-none : (k : Kind) → letter k ≡ 0 → k ≡ Unknown
+letter-none Process e = absurd (omega arith)
+letter-none SourceStream e = absurd (omega arith)
+letter-none Heat e = absurd (omega arith)
+letter-none WasteGas e = absurd (omega arith)
+letter-none Power e = absurd (omega arith)
+letter-none BoughtPrecursor e = absurd (omega arith)
+letter-none OwnGood e = absurd (omega arith)
+letter-none Unknown e = refl
+
+-- a line of no kind is refused by 4, and by 3 where it lacks its LF
+unknown-number : (count : ℕ) (ws : List ℕ) (ended : Bool) (output taken pair : ℕ)
+    → lineNumber limits Unknown count ws ended 0 0 output taken pair ≡ cond ended 4 3
+unfolding shapeNumber fieldsNumber
+unknown-number count ws true output taken pair = refl
+unknown-number count ws false output taken pair = refl
+
+four-or-three : (t : Bool) → _≡_ {A = ℕ} (cond t 4 3) 0 → ⊥
+four-or-three true z = omega arith
+four-or-three false z = omega arith
+
+module _ (sheet : List ℕ) (some : 0 < length sheet) (none : letter (recordOf (lineAt sheet 0) .kind) ≡ 0) where
+  abbrev first : LineRead
+  first = record {
+    kind = recordOf (lineAt sheet 0) .kind;
+    count = length (recordOf (lineAt sheet 0) .said);
+    words = words (recordOf (lineAt sheet 0) .said);
+    end = 0 + lineLength (drop 0 sheet);
+  }
+
+  abbrev ended : Bool
+  ended = not (eqb (0 + lineLength (drop 0 sheet)) (length sheet))
+
+  first-unknown : (n : ℕ) → n ≡ cond ended 4 3 → firstOf (linesChecks limits [] (linesOf sheet)) ≡ refused n 1
+  first-unknown n e =
+      let kilos : List ℕ = replicate PAIRS 0 in
+      let rd = reading-start sheet kilos refl in
+      let read : ReadAt sheet 0 first = record { kind = refl; count = refl; words = refl; end = refl } in
+      let unknown : recordOf (lineAt sheet 0) .kind ≡ Unknown = letter-none (recordOf (lineAt sheet 0) .kind) none in
+      let is : lineGiven sheet 0 worksAtStart kilos rd some first read ≡ cond ended 4 3 =
+      rw unknown (unknown-number (first .count) (first .words) ended _ _ _) in
+      refused-here sheet 0 worksAtStart kilos rd some first read (λ z. four-or-three ended (sym is ∙ z))
+      ∙ ap (λ (k : ℕ). refused k 1) (is ∙ sym e)
+
+  pub first-lacks : 0 + lineLength (drop 0 sheet) ≡ length sheet → firstOf (linesChecks limits [] (linesOf sheet)) ≡ refused 3 1
+  first-lacks e = first-unknown 3 (rw (eq-eqb (0 + lineLength (drop 0 sheet)) (length sheet) e))
+
+  pub first-no-kind : (0 + lineLength (drop 0 sheet) ≡ length sheet → ⊥) → firstOf (linesChecks limits [] (linesOf sheet)) ≡ refused 4 1
+  first-no-kind n = first-unknown 4 (rw (ne-eqb (0 + lineLength (drop 0 sheet)) (length sheet) n))

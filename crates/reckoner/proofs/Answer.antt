@@ -71,6 +71,11 @@ module _ (sheet : List ℕ) where
   pub refused-empty : (r : Refusal) → refusalNumber r ≡ 14 → length sheet ≤ limits .bytes → length sheet ≡ 0 → Reckoned sheet (refusedBy r 0)
   refused-empty r e h z = refused-answer r 0 (none-at-all h z ∙ ap (λ (n : ℕ). refused n 0) (sym e)) (λ (z : refusalNumber r ≡ 0). omega arith)
 
+  pub refused-first : (r : Refusal) → length sheet ≤ limits .bytes → (length sheet ≡ 0 → ⊥) → (refusalNumber r ≡ 0 → ⊥)
+      → firstOf (linesChecks limits [] (linesOf sheet)) ≡ refused (refusalNumber r) 1 → Reckoned sheet (refusedBy r 1)
+  refused-first r short some h v =
+      refused-answer r 1 (by-lines short some ∙ first-here (linesChecks limits [] (linesOf sheet)) last (refusalNumber r) 1 v) h
+
   module _ (short : length sheet ≤ limits .bytes) (some : length sheet ≡ 0 → ⊥) (kilos : List ℕ) (read : Read) (of : ReadOf sheet kilos read) where
     pub refused-line : (refusalNumber (read .refusal) ≡ 0 → ⊥) → Reckoned sheet (refusedBy (read .refusal) (read .line))
     refused-line h =

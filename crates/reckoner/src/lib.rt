@@ -17,6 +17,7 @@ use judge::refusals::refusal_number;
 use quantity::Grams;
 use quantity::SignedGrams;
 use quantity::limits::BYTES;
+use reading::first_refusal;
 use reading::read_lines;
 use works::Works;
 
@@ -130,6 +131,10 @@ pub fn reckon(s: &[u8]) -> Reckoning
     }
     if s.len() == 0 {
         return refused_by(Refusal::EmptySheet, 0);
+    }
+    let first = first_refusal(s);
+    if refusal_number(first) != 0 {
+        return refused_by(first, 1);
     }
     let mut kilos: [u64; PAIRS] = [0; PAIRS];
     let read = read_lines(s, &mut kilos);

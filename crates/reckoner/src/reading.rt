@@ -1,5 +1,12 @@
 // A sheet read from the top, each line judged and noted: one pass over the bytes.
 ghost use mathlib.Core.Path.{_≡_};
+ghost use mathlib.Core.List.{[]};
+ghost use Prim.Native.Nat.{_<_};
+ghost use lib.ListN.{length};
+ghost use Rattle.lines.specs.Lines.{linesOf};
+ghost use Rattle.quantity.specs.Limits.{limits};
+ghost use Rattle.sheet.specs.Verdict.{firstOf, linesChecks, refused};
+ghost use Rattle.judge.specs.Code.{refusalNumber};
 ghost use Rattle.ledger.specs.Ledger.{nothingMoved, ledgerOf};
 ghost use Rattle.judge.specs.declared.refusals.Refusal.the-variants.{Accepted};
 ghost use Rattle.works.specs.Works.{worksOf};
@@ -14,8 +21,11 @@ use ledger::Totals;
 use ledger::book;
 use quantity::Grams;
 use quantity::SignedGrams;
+use records::line_end;
+use records::line_kind;
 use records::read_line;
 use works::Works;
+use works::judging::letter_of;
 use works::judging::line_refusal;
 use works::noting::note;
 
@@ -102,6 +112,21 @@ fn accepted(
         line: 0,
         works,
     }
+}
+
+// Rows 3 and 4 of line 1, judged before the books are laid out: a file that is no sheet is sent back at once.
+pub fn first_refusal(s: &[u8]) -> Refusal
+    requires { ⌜ 0 < length (now s) ⌝ }
+    ensures { λ r. ⌜ ((refusalNumber r ≡ 0 → ⊥) → firstOf (linesChecks limits [] (linesOf (now (s .entry)))) ≡ refused (refusalNumber r) 1) ⌝ }
+{
+    let kind = line_kind(s, 0);
+    if letter_of(kind) != 0 {
+        return Refusal::Accepted;
+    }
+    if line_end(s, 0) == s.len() {
+        return Refusal::LacksLF;
+    }
+    Refusal::UnknownKind
 }
 
 // All lines of a sheet; `kilos` gets the kilograms of each pair of processes.

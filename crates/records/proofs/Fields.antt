@@ -171,6 +171,14 @@ module _ (s : List ℕ) (start end : ℕ) (h : start ≤ end) (k : end ≤ lengt
       go (b ∷ []) e = absurd (n (sym e))
       go (b ∷ c ∷ l) e = refl
 
+-- the first field ends at first
+pub kind-is : (s : List ℕ) (start first : ℕ) (kind : Kind) → start ≤ length s → first ≡ start + fieldLength (drop start s)
+    → kind ≡ kindIn (take (first - start) (drop start s)) → kind ≡ recordOf (lineAt s start) .kind
+unfolding recordOf lineAt lineFields
+kind-is s start first kind h f l =
+    let m : first - start ≡ fieldLength (drop start s) = omega arith in
+    rw (first-field s start first h f) (rw m at l)
+
 -- ---- the line, field by field
 
 word-said : (f : Field) → wordOf (saidOf f) ≡ word f
@@ -231,9 +239,8 @@ module _ (s : List ℕ) (first : ℕ) (held : List ℕ) (count end : ℕ) (r : F
       let n : length (nextFields s first) ≡ count = omega (arith, ap length t, r .counted) in
       let w : held ≡ sets (replicate 8 0) 0 (nextWords s first) = rw t at (r .words) in
       let d : end ≡ start + lineLength (drop start s) = sym (no-end s end z) ∙ r .ended ∙ sym (first-end s start first h f) in
-      let m : first - start ≡ fieldLength (drop start s) = omega arith in
       record {
-        kind = rw q (rw m at l);
+        kind = kind-is s start first kind h f l;
         count = rw (q, length-map) (sym n);
         words = rw q w;
         end = d;

@@ -6,8 +6,8 @@ ghost use mathlib.Core.List.{_∷_, []};
 ghost use Prim.Native.Nat.{_+_, _-_, _≤_, _<_};
 ghost use lib.ListN.{length, take, drop};
 ghost use Rattle.lines.specs.Lines.{LF, COMMA, linesOf, lineBytes, lineStart};
-ghost use Rattle.lines.specs.Records.{kindOf, kindIn};
-ghost use Rattle.lines.specs.Words.{lineLength, ReadAt};
+ghost use Rattle.lines.specs.Records.{kindOf, kindIn, recordOf};
+ghost use Rattle.lines.specs.Words.{lineLength, lineAt, ReadAt};
 ghost use Rattle.fields.specs.Scan.{EndsInLF};
 ghost use Rattle.records.specs.Places.{commaAt, stored, usualFields, FieldsBefore, ShortFieldsAt, PlaceOf};
 use fields::first_end;
@@ -52,6 +52,14 @@ fn kind_in(s: &[u8], start: usize, end: usize) -> Kind
         return kind_of(s[start]);
     }
     Kind::Unknown
+}
+
+// The kind of the line that starts here.
+pub fn line_kind(s: &[u8], start: usize) -> Kind
+    requires { ⌜ start ≤ length (now s) ⌝ }
+    ensures { λ r. ⌜ r ≡ recordOf (lineAt (now (s .entry)) start) .kind ⌝ }
+{
+    kind_in(s, start, first_end(s, start))
 }
 
 // A comma behind a field: one more field follows.
@@ -317,7 +325,7 @@ pub fn read_line(s: &[u8], start: usize) -> LineRead
 // ---- the offending line had back
 
 // The place of the LF of the line that starts here, or of the sheet's end where it lacks it.
-fn line_end(s: &[u8], start: usize) -> usize
+pub fn line_end(s: &[u8], start: usize) -> usize
     requires { ⌜ start ≤ length (now s) ⌝ }
     ensures { λ r. ⌜ r ≡ start + lineLength (drop start (now (s .entry))) ⌝ }
     ensures bounded { λ r. ⌜ (start ≤ r) × (r ≤ length (now (s .entry))) ⌝ }
