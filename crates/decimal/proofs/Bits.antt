@@ -1,36 +1,29 @@
 -- How many digits a number has, from how many bits it has. Assumes nothing.
 use mathlib.Core.Path.{_≡_, refl}
 use mathlib.Core.Bool.{Bool, true, _&&_}
-use mathlib.Core.List.{List, [], _∷_}
 use Prim.Native.Nat.{ℕ, zero, suc, _+_, _-_, _*_, _/_, _^_, _≤_, _<_}
 use native.Mathlib.Decide.{decLe}
 use native.Mathlib.Nat.{lt-of-not-le, lt-of-lt-of-le}
 use native.Mathlib.Omega.{arith}
-use borrow.Author.Tests.{leb-true, eqb-true}
+use borrow.Author.Tests.{leb-true}
 use lib.Count.{leadingZeros, leading-length}
-use lib.Dec.{leb, eqb}
-use lib.ListN.{length, getD}
+use lib.Dec.{leb}
+use lib.ListN.{length}
 use Rattle.decimal.specs.Spelling.{spelling}
+use Rattle.decimal.specs.Writing.{leastOf}
 use Rattle.decimal.proofs.Bools.{and-both}
 use Rattle.decimal.proofs.Spelling.{spelling-some}
 use Rattle.decimal.proofs.Widths.{length-at-most, length-at-least}
 
--- the code's table: the least number of one digit, of two, and so on
-abbrev pub leasts : List ℕ
-leasts =
-    0 ∷ 10 ∷ 100 ∷ 1000 ∷ 10000 ∷ 100000 ∷ 1000000 ∷ 10000000 ∷ 100000000 ∷ 1000000000 ∷ 10000000000 ∷ 100000000000 ∷ 1000000000000
-    ∷ 10000000000000 ∷ 100000000000000 ∷ 1000000000000000 ∷ 10000000000000000 ∷ 100000000000000000 ∷ 1000000000000000000
-    ∷ 10000000000000000000 ∷ []
-
 -- the least number of k digits, 0 for k = 0
 abbrev least : (k : ℕ) → ℕ
 least zero = 0
-least (suc k) = getD leasts k 0
+least (suc k) = leastOf k
 
 abbrev pub fewest : (bits : ℕ) → ℕ
 fewest bits = bits * 1233 / 4096
 
--- ---- two tables of tests, computed
+-- ---- a table of tests, computed
 
 abbrev all : (n : ℕ) → (ℕ → Bool) → Bool
 all zero f = true
@@ -52,26 +45,16 @@ fits bits = leb (2 ^ bits) (10 ^ suc (fewest bits)) && leb (2 * least (fewest bi
 all-fit : all 65 fits ≡ true
 all-fit = refl
 
-abbrev ten : (k : ℕ) → Bool
-ten k = eqb (getD leasts (suc k) 0) (10 ^ suc k)
-
-all-ten : all 19 ten ≡ true
-all-ten = refl
-
-power : (k : ℕ) → k < 19 → getD leasts (suc k) 0 ≡ 10 ^ suc k
-power k h = eqb-true (getD leasts (suc k) 0) (10 ^ suc k) (all-at 19 ten all-ten k h)
-
 -- ---- digits
 
-at-least : (k n : ℕ) → k ≤ 20 → least k ≤ n → k ≤ length (spelling n)
-at-least zero n l h = omega arith
-at-least (suc zero) n l h = spelling-some n
-at-least (suc (suc k)) n l h =
-    length-at-least (suc k) n (rw (power k (let q : k < 19 = omega arith in q)) at h)
+at-least : (k n : ℕ) → least k ≤ n → k ≤ length (spelling n)
+at-least zero n h = omega arith
+at-least (suc zero) n h = spelling-some n
+at-least (suc (suc k)) n h = length-at-least (suc k) n h
 
-at-most : (k n : ℕ) → k < 20 → n < getD leasts k 0 → length (spelling n) ≤ k
-at-most zero n l h = absurd (omega arith)
-at-most (suc k) n l h = length-at-most k n (rw (power k (let q : k < 19 = omega arith in q)) at h)
+at-most : (k n : ℕ) → n < leastOf k → length (spelling n) ≤ k
+at-most zero n h = absurd (omega arith)
+at-most (suc k) n h = length-at-most k n h
 
 module _ (n : ℕ) (h : n < 2 ^ 64) where
   abbrev pub few : ℕ
@@ -90,13 +73,13 @@ module _ (n : ℕ) (h : n < 2 ^ 64) where
       let t = and-both (leb (2 ^ m) (10 ^ suc few)) (leb (2 * least few) (2 ^ m)) (all-at 65 fits all-fit m (let q : m < 65 = omega arith in q)) in
       let top = leb-true (2 ^ m) (10 ^ suc few) (t .0) in
       let bottom = leb-true (2 * least few) (2 ^ m) (t .1) in
-      (at-least few n (let q = few-small in omega arith) (let q : least few ≤ n = half (least few) n (2 ^ m) bottom above in q), length-at-most few n (lt-of-lt-of-le below top))
+      (at-least few n (let q : least few ≤ n = half (least few) n (2 ^ m) bottom above in q), length-at-most few n (lt-of-lt-of-le below top))
     where
       half : (a n p : ℕ) → 2 * a ≤ p → p ≤ 2 * n + 1 → a ≤ n
       half a n p x y = omega arith
 
-  pub so-few : n < getD leasts few 0 → few ≡ length (spelling n)
-  so-few p = let b = between in let m = at-most few n few-small p in omega arith
+  pub so-few : n < leastOf few → few ≡ length (spelling n)
+  so-few p = let b = between in let m = at-most few n p in omega arith
 
-  pub one-more : getD leasts few 0 ≤ n → few + 1 ≡ length (spelling n)
-  one-more p = let b = between in let m = at-least (suc few) n (let q = few-small in omega arith) p in omega arith
+  pub one-more : leastOf few ≤ n → few + 1 ≡ length (spelling n)
+  one-more p = let b = between in let m = at-least (suc few) n p in omega arith

@@ -1,33 +1,39 @@
 // Document 01, "The sheet" and "The report": numbers in decimal. The definitions are in specs/.
 ghost use mathlib.Core.Path.{_≡_};
-ghost use Prim.Native.Nat.{_+_, _≤_};
+ghost use Prim.Native.Nat.{_+_, _≤_, _<_};
 ghost use lib.ListN.{length};
 ghost use Rattle.decimal.specs.Spelling.{spelling};
-ghost use Rattle.decimal.specs.Writing.{Put};
+ghost use Rattle.decimal.specs.Writing.{leastOf, Put};
 
-// The least number of one digit, of two, and so on.
-const LEAST: [u64; 20] = [
-    0,
-    10,
-    100,
-    1000,
-    10000,
-    100000,
-    1000000,
-    10000000,
-    100000000,
-    1000000000,
-    10000000000,
-    100000000000,
-    1000000000000,
-    10000000000000,
-    100000000000000,
-    1000000000000000,
-    10000000000000000,
-    100000000000000000,
-    1000000000000000000,
-    10000000000000000000,
-];
+// The least number of k + 1 digits. A constant array would be put on the stack for each number that is written.
+fn least(k: usize) -> u64
+    requires { ⌜ k < 20 ⌝ }
+    ensures { λ r. ⌜ r ≡ leastOf k ⌝ }
+{
+    match k {
+        0 => 0,
+        1 => 10,
+        2 => 100,
+        3 => 1000,
+        4 => 10000,
+        5 => 100000,
+        6 => 1000000,
+        7 => 10000000,
+        8 => 100000000,
+        9 => 1000000000,
+        10 => 10000000000,
+        11 => 100000000000,
+        12 => 1000000000000,
+        13 => 10000000000000,
+        14 => 100000000000000,
+        15 => 1000000000000000,
+        16 => 10000000000000000,
+        17 => 100000000000000000,
+        18 => 1000000000000000000,
+        19 => 10000000000000000000,
+        _ => 0,
+    }
+}
 
 // How many digits a number has: 1233/4096 of its bits, or one more.
 pub fn width(n: u64) -> usize
@@ -36,7 +42,7 @@ pub fn width(n: u64) -> usize
 {
     let bits = 64 - (u64::leading_zeros(n) as usize);
     let fewest = bits * 1233 / 4096;
-    if n < LEAST[fewest] {
+    if n < least(fewest) {
         return fewest;
     }
     fewest + 1

@@ -7,6 +7,7 @@ use Rattle.decimal.proofs.width.Statement.{statement}
 use Rattle.decimal.proofs.width.Tie as tie
 use Rattle.decimal.proofs.width.Reads as reads
 use Rattle.decimal.proofs.width.Lts as lts
+use Rattle.decimal.proofs.least.Reads as least-reads
 
 cast-bits : tie.Need-cast-bits
 cast-bits c = record { fits = omega (arith, leading-le 64 (c .args .n)) }
@@ -17,28 +18,25 @@ sub-bits c = leading-le 64 (c .args .n)
 mul-fewest : tie.Need-mul-fewest
 mul-fewest c = search needs
 
-mul-if1 : tie.Need-mul-if1
-mul-if1 c = search needs
-
-array-read-if1 : tie.Need-array-read-if1
-array-read-if1 c = search needs
+least-requires : tie.Need-least-requires
+least-requires c κs = search needs
 
 returns : tie.Need-returns
 returns c =
-    let n = c .before .args .n in
-    let h = c .before .fits .n .fits in
-    (so-few n h (c .if1 .taken), omega (arith, few-small n h))
+    let n = c .before .before .args .n in
+    let h = c .before .before .fits .n .fits in
+    (so-few n h (rw (c .before .least .ensures) at (c .if1 .taken)), omega (arith, few-small n h))
 
 add-result : tie.Need-add-result
 add-result c = search needs
 
 returns-2 : tie.Need-returns-2
 returns-2 c =
-    let n = c .before .args .n in
-    let h = c .before .fits .n .fits in
-    (one-more n h (c .if1 .left), omega (arith, few-small n h))
+    let n = c .before .before .args .n in
+    let h = c .before .before .fits .n .fits in
+    (one-more n h (rw (c .before .least .ensures) at (c .if1 .left)), omega (arith, few-small n h))
 
 pub width-spec : {M : Type 1} → statement M
 width-spec =
     tie.close
-    (tie.spec cast-bits sub-bits mul-fewest mul-if1 array-read-if1 returns add-result returns-2)
+    (tie.spec cast-bits sub-bits mul-fewest least-requires returns add-result returns-2)
