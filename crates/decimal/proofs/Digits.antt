@@ -10,6 +10,13 @@ use Rattle.decimal.proofs.Spelling.{spell-one, spell-more, spelling-som
 use Rattle.decimal.proofs.Widths.{length-one, length-more}
 use Rattle.decimal.proofs.Writing.{written-before, length-written, put-none}
 
+-- the last two digits of n, had from its remainder by 100
+last-digit : (n : ℕ) → n % 100 % 10 ≡ n % 10
+last-digit n = omega arith
+
+digit-before : (n : ℕ) → n % 100 / 10 ≡ n / 10 % 10
+digit-before n = omega arith
+
 module _ (l : List ℕ) (at n : ℕ) where
   -- the digits of n behind those of `left` are written, from `place` on
   pub record Written (space : List ℕ) (place left : ℕ) : Type 0 where
@@ -61,14 +68,14 @@ module _ (l : List ℕ) (at n : ℕ) where
   -- two digits more, and the first two
   module _ (room : at + length (spelling n) ≤ length l) (s : List ℕ) (place left : ℕ) (w : Written s place left) where
     pub two-written : (before : ℕ) → before + 2 ≡ place → 100 ≤ left
-        → Written (set (set s (before + 1) (48 + left % 10)) before (48 + left / 10 % 10)) before (left / 100)
+        → Written (set (set s (before + 1) (48 + left % 100 % 10)) before (48 + left % 100 / 10)) before (left / 100)
     two-written before e h =
         let h1 : 10 ≤ left = omega arith in
         let h2 : 10 ≤ left / 10 = omega arith in
         let one = one-written room s place left w (before + 1) (omega arith) h1 in
         let two = one-written room (set s (before + 1) (48 + left % 10)) (before + 1) (left / 10) one before refl h2 in
         let q : left / 10 / 10 ≡ left / 100 = omega arith in
-        rw q at two
+        rw (last-digit left, digit-before left) (rw q at two)
 
     pub last-two : left < 100 → 10 ≤ left → (end : ℕ) → end ≡ at + length (spelling n)
         → Put l at (spelling n) (set (set s (at + 1) (48 + left % 10)) at (48 + left / 10)) end

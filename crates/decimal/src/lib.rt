@@ -58,8 +58,9 @@ pub fn put(space: &mut [u8], at: usize, n: u64) -> usize
     let mut left = n;
     while 99 < left {
         place -= 2;
-        space[place + 1] = 48 + ((left % 10) as u8);
-        space[place] = 48 + ((left / 10 % 10) as u8);
+        let pair = (left % 100) as u8;
+        space[place + 1] = 48 + pair % 10;
+        space[place] = 48 + pair / 10;
         left = left / 100;
     }
     if left < 10 {

@@ -49,8 +49,8 @@ loop-holds c =
 sub-place : tie.Need-sub-place Inv-loop μ-loop
 sub-place c = two (c .before) (c .loop-test .taken)
 
-cast-space : tie.Need-cast-space Inv-loop μ-loop
-cast-space c = search needs
+cast-pair : tie.Need-cast-pair Inv-loop μ-loop
+cast-pair c = search needs
 
 add-space : tie.Need-add-space Inv-loop μ-loop
 add-space c = search needs
@@ -60,9 +60,6 @@ add-space-2 c = let t = two (c .before) (c .loop-test .taken) in let w = within 
 
 slice-write-space : tie.Need-slice-write-space Inv-loop μ-loop
 slice-write-space c = omega (arith, two (c .before) (c .loop-test .taken), within (c .before))
-
-cast-space-2 : tie.Need-cast-space-2 Inv-loop μ-loop
-cast-space-2 c = search needs
 
 add-space-3 : tie.Need-add-space-3 Inv-loop μ-loop
 add-space-3 c = search needs
@@ -80,8 +77,8 @@ loop-again c =
     let h = two k (c .loop-test .taken) in
     (v .0, v .1, two-written _ _ _ (v .0) _ _ _ (v .2) (k .loop .place - 2) (omega arith) (c .loop-test .taken))
 
-cast-space-3 : tie.Need-cast-space-3 Inv-loop μ-loop
-cast-space-3 c = search needs
+cast-space : tie.Need-cast-space Inv-loop μ-loop
+cast-space c = search needs
 
 add-space-4 : tie.Need-add-space-4 Inv-loop μ-loop
 add-space-4 c = search needs
@@ -100,8 +97,8 @@ returns c =
     let v = k .loop .inv in
     all-written _ _ _ (v .0) _ _ _ (v .2) (c .if1 .taken) _ (v .1)
 
-cast-space-4 : tie.Need-cast-space-4 Inv-loop μ-loop
-cast-space-4 c = search needs
+cast-space-2 : tie.Need-cast-space-2 Inv-loop μ-loop
+cast-space-2 c = search needs
 
 add-space-5 : tie.Need-add-space-5 Inv-loop μ-loop
 add-space-5 c = search needs
@@ -114,8 +111,8 @@ slice-write-space-4 c =
     let k = c .before .before in
     omega (arith, within k, k .loop .inv .2 .place-is, length-at-least 1 (k .loop .left) (c .if1 .left))
 
-cast-space-5 : tie.Need-cast-space-5 Inv-loop μ-loop
-cast-space-5 c = search needs
+cast-space-3 : tie.Need-cast-space-3 Inv-loop μ-loop
+cast-space-3 c = search needs
 
 add-space-7 : tie.Need-add-space-7 Inv-loop μ-loop
 add-space-7 c = search needs
@@ -144,25 +141,24 @@ put-spec =
     add-end
     loop-holds
     sub-place
-    cast-space
+    cast-pair
     add-space
     add-space-2
     slice-write-space
-    cast-space-2
     add-space-3
     slice-write-space-2
     loop-less
     loop-again
-    cast-space-3
+    cast-space
     add-space-4
     slice-write-space-3
     same-length
     returns
-    cast-space-4
+    cast-space-2
     add-space-5
     add-space-6
     slice-write-space-4
-    cast-space-5
+    cast-space-3
     add-space-7
     slice-write-space-5
     same-length-2
