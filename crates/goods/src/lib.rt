@@ -6,7 +6,8 @@ ghost use Rattle.goods.specs.Settling.{PROCESSES, SIZE, figures, pairs, 
 use quantity::Grams;
 use quantity::Kilos;
 use quantity::limits::PROCESSES;
-use shares::share;
+use shares::parted;
+use shares::parted_share;
 
 // Figures stand at the process's number; place 0 is outside the works.
 pub const SIZE: usize = PROCESSES + 1;
@@ -29,6 +30,7 @@ fn pass_on(
     ensures { λ r. ⌜ PassedOn count (getD (now (pools .entry)) from 0) (output .0) (pairs (now (kilos .entry)) from) (now (pools .entry)) (now (pools .exit)) (r .0) ⌝ }
 {
     let pool = pools[from];
+    let parts = parted(Grams(pool), output);
     let mut taken = 0;
     let mut given = 0;
     let mut to = from;
@@ -38,7 +40,7 @@ fn pass_on(
         let kg = kilos[at];
         if kg > 0 {
             let through = taken + kg;
-            let next = share(Grams(pool), Kilos(through), output);
+            let next = parted_share(parts, Kilos(through), output);
             pools[to] = pools[to] + (next.0 - given);
             taken = through;
             given = next.0;

@@ -144,16 +144,13 @@ pub share-rising : (P c₁ c₂ w : ℕ) → c₁ ≤ c₂ → 1 ≤ w → P * c
 share-rising P c₁ c₂ w h one =
     le-div-iff-mul-le one .1 (le-trans (div-mul-le-self (P * c₁) w) (mul-le-mul-left P h))
 
--- P is P / w times w and a rest
-pub by-rest : (P p w : ℕ) → 1 ≤ w → P / w * p + P % w * p / w ≡ P * p / w
-by-rest P p w one =
-    let t : ℕ = P / w in
-    let s : ℕ = P % w in
-    let whole : (t * w + s) * p ≡ P * p = ap (λ (n : ℕ). n * p) (divided P w) in
+-- P is t times w and a rest s
+pub by-rest : (t s p w : ℕ) → 1 ≤ w → t * p + s * p / w ≡ (t * w + s) * p / w
+by-rest t s p w one =
     let rest : s * p / w * w + s * p % w ≡ s * p = divided (s * p) w in
-    let e : (t * p + s * p / w) * w + s * p % w ≡ P * p =
+    let e : (t * p + s * p / w) * w + s * p % w ≡ (t * w + s) * p =
     omega (arith, add-mul (t * p) (s * p / w) w, mul-right-comm t p w, add-mul (t * w) s p) in
-    quotient (t * p + s * p / w) (s * p % w) (P * p) w e (mod-lt (s * p) one)
+    quotient (t * p + s * p / w) (s * p % w) ((t * w + s) * p) w e (mod-lt (s * p) one)
 
-pub times-small : (P p w : ℕ) → p ≤ w → 1 ≤ w → P / w * p + P % w * p / w ≤ P
-times-small P p w h one = le-trans (le-of-eq (by-rest P p w one)) (share-small P p w h)
+pub times-small : (t s p w : ℕ) → p ≤ w → 1 ≤ w → t * p + s * p / w ≤ t * w + s
+times-small t s p w h one = le-trans (le-of-eq (by-rest t s p w one)) (share-small (t * w + s) p w h)

@@ -85,15 +85,44 @@ fn walked(pool: Grams, part: Kilos, whole: Kilos) -> Grams
     Grams(d.quotient)
 }
 
-// ⌊P × C/A⌋: P is times × A and a rest, of which fewer bits are left to walk.
+// P as times × A and a rest below A.
+pub struct PartedPool {
+    pub times: u64,
+    pub rest: Grams,
+}
+
+// P divided by A, once for all the C that are taken of it.
+pub fn parted(pool: Grams, whole: Kilos) -> PartedPool
+    requires { ⌜ 1 ≤ whole .0 ⌝ }
+    ensures { λ r. ⌜ r .times * whole .0 + r .rest .0 ≡ pool .0 ⌝ }
+    ensures below { λ r. ⌜ r .rest .0 < whole .0 ⌝ }
+    ensures bounded { λ r. ⌜ r .times * whole .0 + r .rest .0 < 2 ^ 64 ⌝ }
+{
+    PartedPool {
+        times: pool.0 / whole.0,
+        rest: Grams(pool.0 % whole.0),
+    }
+}
+
+// ⌊P × C/A⌋ from P parted by A: only the rest is walked.
+pub fn parted_share(pool: PartedPool, part: Kilos, whole: Kilos) -> Grams
+    requires { ⌜ PartRange (part .0) (whole .0) ⌝ }
+    requires { ⌜ pool .times * whole .0 + pool .rest .0 < 2 ^ 64 ⌝ }
+    ensures { λ r. ⌜ r .0 ≡ (pool .times * whole .0 + pool .rest .0) * part .0 / whole .0 ⌝ }
+    ensures bounded { λ r. ⌜ r .0 ≤ pool .times * whole .0 + pool .rest .0 ⌝ }
+{
+    let rest = walked(pool.rest, part, whole);
+    Grams(pool.times * part.0 + rest.0)
+}
+
+// ⌊P × C/A⌋ for one C.
 pub fn share(pool: Grams, part: Kilos, whole: Kilos) -> Grams
     requires { ⌜ PartRange (part .0) (whole .0) ⌝ }
     ensures { λ r. ⌜ r .0 ≡ pool .0 * part .0 / whole .0 ⌝ }
     ensures bounded { λ r. ⌜ r .0 ≤ pool .0 ⌝ }
 {
-    let times = pool.0 / whole.0;
-    let rest = walked(Grams(pool.0 % whole.0), part, whole);
-    Grams(times * part.0 + rest.0)
+    let parts = parted(pool, whole);
+    parted_share(parts, part, whole)
 }
 
 // "The k-th portion is ⌊P × C(k)/A⌋ − ⌊P × C(k−1)/A⌋": before is C(k−1), with C(k).
