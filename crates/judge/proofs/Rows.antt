@@ -37,7 +37,7 @@ unfolding rowNumber
 row-none r words k fields h = let e : fields - k ≡ 0 = omega arith in rw e
 
 -- 0 where each word is within its range
-word-within : (lowest highest : ℕ) (dash : Bool) (word : ℕ) → lowest ≤ word → word ≤ highest → wordNumber lowest highest dash word ≡ 0
+pub word-within : (lowest highest : ℕ) (dash : Bool) (word : ℕ) → lowest ≤ word → word ≤ highest → wordNumber lowest highest dash word ≡ 0
 unfolding wordNumber
 word-within lowest highest dash word l h = rw (le-ltb word lowest l, le-leb word highest h)
 

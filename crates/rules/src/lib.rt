@@ -16,13 +16,46 @@ pub struct Rules {
 }
 
 // The highest number of a process.
-const LAST: u64 = PROCESSES as u64;
+pub const LAST: u64 = PROCESSES as u64;
 
 // The highest kilograms.
-const KILOS: u64 = 10000000000;
+pub const KILOS: u64 = 10000000000;
 
 // The highest megajoules.
-const MEGAJOULES: u64 = 1000000000000;
+pub const MEGAJOULES: u64 = 1000000000000;
+
+// The highest kilowatt-hours.
+pub const KILOWATT_HOURS: u64 = 100000000000;
+
+// The highest factor of heat, mg CO2 per MJ.
+pub const HEAT_FACTOR: u64 = 400000;
+
+// The highest factor of power, mg per kWh.
+pub const POWER_FACTOR: u64 = 2000000;
+
+// The highest specific figure of a bought precursor, mg per kg.
+pub const SPECIFIC_FIGURE: u64 = 100000000;
+
+// The highest code of a fuel.
+pub const FUELS: u64 = 16;
+
+// The highest code of a carbonate.
+pub const CARBONATES: u64 = 9;
+
+// The highest net calorific value, kJ per kg.
+pub const CALORIFIC_VALUE: u64 = 200000;
+
+// The highest factor of burning, mg per MJ.
+pub const BURNING_FACTOR: u64 = 400000;
+
+// The highest factor of a process emission, mg per kg.
+pub const PROCESS_FACTOR: u64 = 4000000;
+
+// The highest carbon, mg per kg.
+pub const CARBON_CONTENT: u64 = 1000000;
+
+// The whole, in ten-thousandths: the highest oxidation or conversion factor and the highest biomass share.
+pub const WHOLE: u64 = 10000;
 
 // The rows in which no `-` may stand.
 const NO_DASH: [bool; 8] = [false, false, false, false, false, false, false, false];
@@ -39,7 +72,16 @@ const PROCESS: Rules = Rules {
 const BURNING: Rules = Rules {
     count: 8,
     lowest: [1, 1, 0, 1, 1, 0, 0, 0],
-    highest: [LAST, 4, 16, KILOS, 200000, 400000, 10000, 10000],
+    highest: [
+        LAST,
+        4,
+        FUELS,
+        KILOS,
+        CALORIFIC_VALUE,
+        BURNING_FACTOR,
+        WHOLE,
+        WHOLE,
+    ],
     dash: [false, false, false, false, true, true, false, false],
 };
 
@@ -47,15 +89,15 @@ const BURNING: Rules = Rules {
 const PROCESS_EMISSION: Rules = Rules {
     count: 8,
     lowest: [1, 1, 0, 1, 0, 0, 0, 0],
-    highest: [LAST, 4, 9, KILOS, 4000000, 0, 10000, 10000],
+    highest: [LAST, 4, CARBONATES, KILOS, PROCESS_FACTOR, 0, WHOLE, WHOLE],
     dash: [false, false, false, false, true, false, false, false],
 };
 
 // of methods 3 and 4, carbon going in and carbon going out
 const CARBON: Rules = Rules {
     count: 8,
-    lowest: [1, 1, 0, 1, 0, 0, 10000, 0],
-    highest: [LAST, 4, 0, KILOS, 1000000, 0, 10000, 10000],
+    lowest: [1, 1, 0, 1, 0, 0, WHOLE, 0],
+    highest: [LAST, 4, 0, KILOS, CARBON_CONTENT, 0, WHOLE, WHOLE],
     dash: NO_DASH,
 };
 
@@ -71,7 +113,7 @@ const NO_METHOD: Rules = Rules {
 const HEAT: Rules = Rules {
     count: 4,
     lowest: [0, 0, 1, 0, 0, 0, 0, 0],
-    highest: [LAST, LAST, MEGAJOULES, 400000, 0, 0, 0, 0],
+    highest: [LAST, LAST, MEGAJOULES, HEAT_FACTOR, 0, 0, 0, 0],
     dash: NO_DASH,
 };
 
@@ -87,7 +129,7 @@ const WASTE_GAS: Rules = Rules {
 const POWER: Rules = Rules {
     count: 4,
     lowest: [0, 0, 1, 0, 0, 0, 0, 0],
-    highest: [LAST, LAST, 100000000000, 2000000, 0, 0, 0, 0],
+    highest: [LAST, LAST, KILOWATT_HOURS, POWER_FACTOR, 0, 0, 0, 0],
     dash: NO_DASH,
 };
 
@@ -95,7 +137,7 @@ const POWER: Rules = Rules {
 const BOUGHT_PRECURSOR: Rules = Rules {
     count: 4,
     lowest: [1, 1, 0, 0, 0, 0, 0, 0],
-    highest: [LAST, KILOS, 100000000, 100000000, 0, 0, 0, 0],
+    highest: [LAST, KILOS, SPECIFIC_FIGURE, SPECIFIC_FIGURE, 0, 0, 0, 0],
     dash: NO_DASH,
 };
 

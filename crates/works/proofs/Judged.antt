@@ -1,10 +1,10 @@
 -- Rows 2 to 13 of one line, over what the code holds. Assumes nothing.
 use mathlib.Core.Path.{_≡_, refl}
-use mathlib.Core.Bool.{Bool, true, false, cond}
+use mathlib.Core.Bool.{Bool, true, false, cond, not}
 use mathlib.Core.List.{List}
 use Prim.Native.Nat.{ℕ, suc, _≤_, _<_}
 use native.Mathlib.Omega.{arith}
-use borrow.Author.Tests.{ne-eqb, eq-eqb, eqb-true, leb-true}
+use borrow.Author.Tests.{ne-eqb, eq-eqb, eqb-true, leb-true, le-ltb}
 use lib.Dec.{eqb, leb, ltb}
 use lib.ListN.{length, getD}
 use Rattle.decimal.proofs.Bools.{never}
@@ -15,7 +15,8 @@ use Rattle.lines.specs.declared.Kind.the-variants.{Process, SourceStream, Heat,
 use Rattle.goods.specs.Settling.{SIZE}
 use Rattle.quantity.specs.Limits.{limits}
 use Rattle.sheet.specs.Kinds.{rules}
-use Rattle.judge.specs.Code.{orElse, wordNumber, wordsNumber, wordRules, fieldsNumber, shapeNumber, orderNumber}
+use Rattle.judge.specs.Code.{orElse, wordNumber, wordsNumber, wordRules, fieldsNumber, shapeNumber, orderNumber, lineNumber}
+use Rattle.keeping.specs.Kept.{Kept}
 
 pub else-first : (a b : ℕ) → (a ≡ 0 → ⊥) → a ≡ orElse a b
 else-first a b h = rw (ne-eqb a 0 h)
@@ -81,3 +82,12 @@ good-placed WasteGas count words ended above g h = absurd (never g)
 good-placed Power count words ended above g h = absurd (never g)
 good-placed BoughtPrecursor count words ended above g h = absurd (never g)
 good-placed Unknown count words ended above g h = absurd (never g)
+
+-- ---- a line by which rows 4 to 13 do not apply, in its place
+
+pub kept-line : (kind : Kind) (count : ℕ) (words : List ℕ) (end size above processes output taken pair : ℕ) → above < limits .lines
+    → eqb end size ≡ false → Kept limits kind count words above processes output taken pair
+    → lineNumber limits kind count words (not (eqb end size)) above processes output taken pair ≡ 0
+unfolding shapeNumber
+kept-line kind count words end size above processes output taken pair few ended kept =
+    simp (le-ltb (limits .lines) (suc above) few, ended, kept .fields, kept .order)

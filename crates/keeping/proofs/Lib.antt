@@ -1,0 +1,2 @@
+-- Laws of the crate.
+pub mod Kept

@@ -1,0 +1,2 @@
+-- What a line keeps.
+pub mod Kept
