@@ -1,16 +1,14 @@
 -- What the code gives a line by the row of its kind is what the rules of its kind give: rows 4 to 7. Assumes nothing.
 use mathlib.Core.Path.{_≡_, refl, sym, ap, _∙_}
-use mathlib.Core.Bool.{Bool, true, false, _&&_}
+use mathlib.Core.Bool.{Bool, false}
 use mathlib.Core.List.{List}
 use Prim.Native.Nat.{ℕ, zero, suc, _+_, _-_, _≤_, _<_}
 use native.Mathlib.Numerals.{add-one}
-use native.Mathlib.Decide.{ℕ-discrete}
 use native.Mathlib.Omega.{arith}
-use borrow.Author.Tests.{eq-eqb, ne-eqb, le-ltb, le-leb, leb-true}
-use lib.Dec.{eqb, leb}
+use borrow.Author.Tests.{eq-eqb, ne-eqb, le-ltb, le-leb}
+use lib.Dec.{eqb}
 use lib.ListN.{length, getD, drop, drop-of-length-le}
 use lib.Seq.{drop-cons}
-use Rattle.decimal.proofs.Bools.{and-both}
 use Rattle.lines.specs.Records.{number, letter}
 use Rattle.lines.specs.declared.Kind.{Kind}
 use Rattle.lines.specs.declared.Kind.the-variants.{Unknown}
@@ -19,7 +17,7 @@ use Rattle.sheet.specs.Kinds.{Rule, exactly}
 use Rattle.sheet.proofs.EveryKind.{few-rules, none-unknown}
 use Rattle.rules.specs.Row.{row}
 use Rattle.rules.proofs.Row.{eight-at}
-use Rattle.judge.specs.Code.{orElse, wordNumber, wordsNumber, rowNumber, AllWithin, wordRules, fieldsNumber}
+use Rattle.judge.specs.Code.{orElse, wordNumber, wordsNumber, rowNumber, wordRules, fieldsNumber}
 use Rattle.rules.specs.declared.Rules.{Rules}
 
 -- ---- 6 and 7 by the row, as the loop goes: n fields from k on
@@ -36,29 +34,10 @@ pub row-none : (r : Rules) (words : List ℕ) (k fields : ℕ) → fields ≤ k 
 unfolding rowNumber
 row-none r words k fields h = let e : fields - k ≡ 0 = omega arith in rw e
 
--- 0 where each word is within its range
+-- 0 where a word is within its range
 pub word-within : (lowest highest : ℕ) (dash : Bool) (word : ℕ) → lowest ≤ word → word ≤ highest → wordNumber lowest highest dash word ≡ 0
 unfolding wordNumber
 word-within lowest highest dash word l h = rw (le-ltb word lowest l, le-leb word highest h)
-
-pub row-within : (r : Rules) (words : List ℕ) → AllWithin r words 8 → (n k : ℕ) → k + n ≤ 8 → rowNumber r words k n ≡ 0
-unfolding rowNumber
-row-within r words w zero k h = refl
-row-within r words w (suc n) k h =
-    let here = w k (let p : k < 8 = omega arith in p) in
-    rw (word-within (getD (r .lowest) k 0) (getD (r .highest) k 0) (getD (r .dash) k false) (getD words k 0) (here .0) (here .1))
-    (row-within r words w n (suc k) (omega arith))
-
--- one word more within its range
-pub within-next : (r : Rules) (words : List ℕ) (k : ℕ) (within : Bool) → (within ≡ true → AllWithin r words k)
-    → within && leb (getD (r .lowest) k 0) (getD words k 0) && leb (getD words k 0) (getD (r .highest) k 0) ≡ true → AllWithin r words (k + 1)
-within-next r words k within before e j h =
-    let high = and-both (within && leb (getD (r .lowest) k 0) (getD words k 0)) (leb (getD words k 0) (getD (r .highest) k 0)) e in
-    let low = and-both within (leb (getD (r .lowest) k 0) (getD words k 0)) (high .0) in
-    elim (ℕ-discrete j k) [
-      | yes p ↦ rw p (leb-true (getD (r .lowest) k 0) (getD words k 0) (low .1), leb-true (getD words k 0) (getD (r .highest) k 0) (high .1))
-      | no n ↦ before (low .0) j (let q : j < k = omega arith in q)
-    ]
 
 -- it is that of the rules
 from-row : (rs : List Rule) (words : List ℕ) → length rs ≤ 8 → (n k : ℕ) → k + n ≡ length rs

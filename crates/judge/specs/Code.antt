@@ -65,10 +65,6 @@ rowNumber r words k zero = 0
 rowNumber r words k (suc n) =
     orElse (wordNumber (getD (r .lowest) k 0) (getD (r .highest) k 0) (getD (r .dash) k false) (getD words k 0)) (rowNumber r words (suc k) n)
 
--- the first n words are numbers within the ranges of a row
-abbrev pub AllWithin : Rules → (words : List ℕ) → (n : ℕ) → Type 0
-AllWithin r words n = (k : ℕ) → k < n → (getD (r .lowest) k 0 ≤ getD words k 0) × (getD words k 0 ≤ getD (r .highest) k 0)
-
 module _ (limits : Limits) where
   -- the rules of a line, by the word of its second field for a source stream
   abbrev pub wordRules : Kind → (words : List ℕ) → List Rule

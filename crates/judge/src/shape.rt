@@ -1,10 +1,10 @@
 // Document 01, "Sheets sent back", rows 2 to 7: the line by itself.
 ghost use mathlib.Core.Path.{_≡_};
-ghost use mathlib.Core.Bool.{true, not};
+ghost use mathlib.Core.Bool.{not};
 ghost use Prim.Native.Nat.{_≤_};
 ghost use lib.Dec.{eqb};
 ghost use Rattle.quantity.specs.Limits.{limits};
-ghost use Rattle.judge.specs.Code.{refusalNumber, wordNumber, rowNumber, AllWithin, fieldsNumber, shapeNumber};
+ghost use Rattle.judge.specs.Code.{refusalNumber, wordNumber, rowNumber, fieldsNumber, shapeNumber};
 use super::refusals::Refusal;
 use super::refusals::refusal_number;
 use lines::DASH;
@@ -37,20 +37,6 @@ fn field_refusal(word: u64, lowest: u64, highest: u64, dash: bool) -> Refusal
     Refusal::OutOfRange
 }
 
-// Whether each word is a number within its range; where a line has fewer fields, the words and ranges of the others are 0.
-fn all_within(words: &[u64; 8], rules: Rules) -> bool
-    ensures { λ r. ⌜ (r ≡ true → AllWithin rules (now (words .entry)) 8) ⌝ }
-{
-    let mut within = true;
-    let mut k: usize = 0;
-    while k < 8 {
-        let word = words[k];
-        within = within & (rules.lowest[k] <= word) & (word <= rules.highest[k]);
-        k += 1;
-    }
-    within
-}
-
 // Rows 6 and 7 field by field from the left.
 fn words_refusal(words: &[u64; 8], rules: Rules) -> Refusal
     requires { ⌜ rules .count ≤ 8 ⌝ }
@@ -77,9 +63,6 @@ fn fields_refusal(kind: Kind, count: usize, words: &[u64; 8]) -> Refusal
     }
     if count != rules.count {
         return Refusal::WrongFieldCount;
-    }
-    if all_within(words, rules) {
-        return Refusal::Accepted;
     }
     words_refusal(words, rules)
 }

@@ -7,12 +7,11 @@ use borrow.Author.Needs.{needs}
 use Rattle.quantity.specs.Limits.{limits}
 use Rattle.rules.specs.declared.Rules.{Rules}
 use Rattle.judge.specs.Code.{rowNumber, fieldsNumber}
-use Rattle.judge.proofs.Rows.{row-within, row-few, fields-unknown, fields-count, fields-row}
+use Rattle.judge.proofs.Rows.{row-few, fields-unknown, fields-count, fields-row}
 use Rattle.judge.proofs.shape.fields_refusal.Statement.{statement}
 use Rattle.judge.proofs.shape.fields_refusal.Tie as tie
 use Rattle.judge.proofs.shape.fields_refusal.Reads as reads
 use Rattle.judge.proofs.shape.fields_refusal.Lts as lts
-use Rattle.judge.proofs.shape.all_within.Reads as all-within-reads
 use Rattle.judge.proofs.shape.words_refusal.Reads as words-refusal-reads
 use Rattle.rules.proofs.rules_of.Reads as rules-of-reads
 
@@ -51,20 +50,11 @@ returns c = unknown (c .before .before) (c .if1 .taken)
 returns-2 : tie.Need-returns-2
 returns-2 c = other-count (c .before .before .before .before) (c .before .before .if1 .left) (c .if2 .taken)
 
-all-within-requires : tie.Need-all-within-requires
-all-within-requires c κs = search needs
+words-refusal-requires : tie.Need-words-refusal-requires
+words-refusal-requires c κs = few (c .before .before .before .before)
 
 returns-3 : tie.Need-returns-3
-returns-3 c =
-    let row = c .before .before .before .before .before .before in
-    sym (row-within (rules row) (words row) (c .before .all-within .ensures (c .if3 .taken)) (rules row .count) 0 (omega (arith, few row)))
-    ∙ by-row row (c .before .before .before .before .if1 .left) (c .before .before .if2 .left)
-
-words-refusal-requires : tie.Need-words-refusal-requires
-words-refusal-requires c κs = few (c .before .before .before .before .before .before)
-
-returns-4 : tie.Need-returns-4
-returns-4 c = c .words-refusal .ensures ∙ by-row (c .before .before .before .before .before .before .before) (c .before .before .before .before .before .if1 .left) (c .before .before .before .if2 .left)
+returns-3 c = c .words-refusal .ensures ∙ by-row (c .before .before .before .before .before) (c .before .before .before .if1 .left) (c .before .if2 .left)
 
 pub fields-refusal-spec : {M : Type 1} → statement M
 fields-refusal-spec =
@@ -74,7 +64,5 @@ fields-refusal-spec =
     rules-of-requires
     returns
     returns-2
-    all-within-requires
-    returns-3
     words-refusal-requires
-    returns-4)
+    returns-3)
