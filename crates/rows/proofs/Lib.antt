@@ -1,3 +1,4 @@
 -- Laws of the lines of a reckoning's report.
 pub mod Figures
 pub mod Rows
+pub mod Totals

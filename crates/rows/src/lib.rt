@@ -1,24 +1,23 @@
 // Document 01, "The report": the lines of a reckoning's report, written into a lent space.
 ghost use mathlib.Core.Path.{_≡_};
-ghost use Prim.Native.Nat.{_^_, _≤_, _<_};
-ghost use lib.ListN.{length, take};
+ghost use Prim.Native.Nat.{_+_, _^_, _≤_, _<_};
+ghost use lib.ListN.{length};
 ghost use lib.IntN.{natAbs};
 ghost use Rattle.decimal.specs.Writing.{Put};
 ghost use Rattle.report.specs.Report.{specific};
 ghost use Rattle.report.specs.Spelling.{thousandths, signed};
-ghost use Rattle.figures.specs.Figures.{FIELDS, held};
+ghost use Rattle.figures.specs.Figures.{FIELDS, held, tailed, line};
 ghost use Rattle.works.specs.Works.{MOST};
 ghost use Rattle.rows.specs.Held.{Sound, rowSaid, fieldsOf, totalFields, rowsBytes, bytesHeld};
 use figures::FIELDS;
 use figures::Figure;
+use figures::put_byte;
+use figures::put_figure;
 use figures::put_line;
 use quantity::Grams;
 use quantity::Kilos;
 use quantity::SignedGrams;
 use reckoner::Reckoning;
-
-// As many fields as the last line has behind its letter.
-const TOTALS: usize = 4;
 
 // Specific embedded emissions: pool/output in g/kg, three digits after the dot, cut down.
 fn specific_figure(pool: Grams, output: Kilos) -> Figure
@@ -77,18 +76,18 @@ fn row_fields(row: Row) -> [Figure; FIELDS]
     ]
 }
 
-// The fields of the last line, and six that are not written.
-fn total_fields(r: Reckoning) -> [Figure; FIELDS]
-    requires { ⌜ Sound r ⌝ }
-    ensures { λ q. ⌜ take 4 q ≡ totalFields r ⌝ }
+// Writes the last line.
+fn put_totals(space: &mut [u8], at: usize, r: Reckoning) -> usize
+    requires { ⌜ (Sound r) × (at + (length (tailed (totalFields r)) + 2) ≤ length (now space)) ⌝ }
+    ensures { λ n. ⌜ Put (now (space .entry)) at (line 84 (totalFields r)) (now (space .exit)) n ⌝ }
 {
-    let mut fields = [Figure::Whole(0); FIELDS];
-    fields[0] = Figure::Whole(r.figures.left.0);
     let entered = r.entered;
-    fields[1] = signed_figure(entered);
-    fields[2] = Figure::Whole(r.figures.total_raised.0);
-    fields[3] = Figure::Whole(r.uncredited.0);
-    fields
+    let letter = put_byte(space, at, b'T');
+    let left = put_figure(space, letter, Figure::Whole(r.figures.left.0));
+    let entering = put_figure(space, left, signed_figure(entered));
+    let raised = put_figure(space, entering, Figure::Whole(r.figures.total_raised.0));
+    let uncredited = put_figure(space, raised, Figure::Whole(r.uncredited.0));
+    put_byte(space, uncredited, b'\n')
 }
 
 // Writes the lines of all processes.
@@ -124,5 +123,5 @@ pub fn put_report(space: &mut [u8], r: Reckoning) -> usize
     ensures { λ n. ⌜ Put (now (space .entry)) 0 (bytesHeld r) (now (space .exit)) n ⌝ }
 {
     let at = put_rows(space, r);
-    put_line(space, at, b'T', total_fields(r), TOTALS)
+    put_totals(space, at, r)
 }

@@ -1,0 +1,129 @@
+-- `rows::put_totals` meets its contract. Assumes nothing.
+use mathlib.Core.Path.{_≡_, ap, _∙_}
+use Prim.Native.Nat.{ℕ, _+_}
+use native.Mathlib.Omega.{arith}
+use lib.ListN.{length}
+use borrow.Author.Needs.{needs}
+use Rattle.decimal.proofs.Writing.{then}
+use Rattle.rows.proofs.Totals.{wide, leftFigure, enteredFigure, raisedFigure, uncreditedFigure, totals-long, totals-line}
+use Rattle.rows.proofs.put_totals.Statement.{statement}
+use Rattle.rows.proofs.put_totals.Tie as tie
+use Rattle.rows.proofs.put_totals.Reads as reads
+use Rattle.rows.proofs.put_totals.Lts as lts
+use Rattle.figures.proofs.put_byte.Reads as put-byte-reads
+use Rattle.figures.proofs.put_figure.Reads as put-figure-reads
+use Rattle.rows.proofs.signed_figure.Reads as signed-figure-reads
+
+-- the space stays as long as it was, and each field is put behind the one before it
+module _ (b : tie.After-put-byte) where
+  abbrev start : tie.Start
+  start = b .before .before .before .before
+
+  abbrev long : ℕ
+  long = length (start .args .space .now)
+
+  -- what the fields so far take behind the letter
+  abbrev Behind : (place size width : ℕ) → Type 0
+  Behind place size width = (size ≡ long) × (place ≡ start .args .at + 1 + width)
+
+  letter-put : Behind (b .put-byte .result) (length (b .put-byte .last .0)) 0
+  letter-put = (b .put-byte .kept .0, omega (arith, b .put-byte .ensures .place))
+
+left-put : (f : tie.After-put-figure) → Behind (f .before .before .before .before) (f .put-figure .result) (length (f .put-figure .last .0))
+    (wide (leftFigure (start (f .before .before .before .before) .args .r)))
+left-put f =
+    let p = letter-put (f .before .before .before .before) in
+    (f .put-figure .kept .0 ∙ p .0, omega (arith, p .1, f .put-figure .ensures .place))
+
+entered-put : (g : tie.After-put-figure2) → Behind (g .before .before .before .before .before .before .before .before .before) (g .put-figure2 .result) (length (g .put-figure2 .last .0))
+    (wide (leftFigure (start (g .before .before .before .before .before .before .before .before .before) .args .r)) + wide (enteredFigure (start (g .before .before .before .before .before .before .before .before .before) .args .r)))
+entered-put g =
+    let p = left-put (g .before .before .before .before .before) in
+    let e = ap wide (g .before .signed-figure .ensures) in
+    (g .put-figure2 .kept .0 ∙ p .0, omega (arith, p .1, g .put-figure2 .ensures .place, e))
+
+raised-put : (h : tie.After-put-figure3) → Behind (h .before .before .before .before .before .before .before .before .before .before .before .before .before) (h .put-figure3 .result) (length (h .put-figure3 .last .0))
+    (wide (leftFigure (start (h .before .before .before .before .before .before .before .before .before .before .before .before .before) .args .r)) + wide (enteredFigure (start (h .before .before .before .before .before .before .before .before .before .before .before .before .before) .args .r)) + wide (raisedFigure (start (h .before .before .before .before .before .before .before .before .before .before .before .before .before) .args .r)))
+raised-put h =
+    let p = entered-put (h .before .before .before .before) in
+    (h .put-figure3 .kept .0 ∙ p .0, omega (arith, p .1, h .put-figure3 .ensures .place))
+
+uncredited-put : (i : tie.After-put-figure4) → Behind (i .before .before .before .before .before .before .before .before .before .before .before .before .before .before .before .before .before) (i .put-figure4 .result) (length (i .put-figure4 .last .0))
+    (wide (leftFigure (start (i .before .before .before .before .before .before .before .before .before .before .before .before .before .before .before .before .before) .args .r)) + wide (enteredFigure (start (i .before .before .before .before .before .before .before .before .before .before .before .before .before .before .before .before .before) .args .r)) + wide (raisedFigure (start (i .before .before .before .before .before .before .before .before .before .before .before .before .before .before .before .before .before) .args .r)) + wide (uncreditedFigure (start (i .before .before .before .before .before .before .before .before .before .before .before .before .before .before .before .before .before) .args .r)))
+uncredited-put i =
+    let p = raised-put (i .before .before .before .before) in
+    (i .put-figure4 .kept .0 ∙ p .0, omega (arith, p .1, i .put-figure4 .ensures .place))
+
+put-byte-requires : tie.Need-put-byte-requires
+put-byte-requires c κs = search needs
+
+put-figure-requires : tie.Need-put-figure-requires
+put-figure-requires c κs =
+    let b = c .before .before .before in
+    let s = b .before .before .before .before in
+    omega (arith, totals-long (s .args .r), s .pre .1, b .put-byte .kept .0, b .put-byte .ensures .place)
+
+signed-figure-requires : tie.Need-signed-figure-requires
+signed-figure-requires c κs = search needs
+
+put-figure-requires-2 : tie.Need-put-figure-requires-2
+put-figure-requires-2 c κs =
+    let f = c .before .before .before .before in
+    let s = start (f .before .before .before .before) in
+    let p = left-put f in
+    let e = ap wide (c .signed-figure .ensures) in
+    omega (arith, totals-long (s .args .r), s .pre .1, p .0, p .1, e)
+
+put-figure-requires-3 : tie.Need-put-figure-requires-3
+put-figure-requires-3 c κs =
+    let p = entered-put (c .before .before .before) in
+    let s = start (c .before .before .before .before .before .before .before .before .before .before .before .before) in
+    omega (arith, totals-long (s .args .r), s .pre .1, p .0, p .1)
+
+put-figure-requires-4 : tie.Need-put-figure-requires-4
+put-figure-requires-4 c κs =
+    let p = raised-put (c .before .before .before) in
+    let s = start (c .before .before .before .before .before .before .before .before .before .before .before .before .before .before .before .before) in
+    omega (arith, totals-long (s .args .r), s .pre .1, p .0, p .1)
+
+put-byte-requires-2 : tie.Need-put-byte-requires-2
+put-byte-requires-2 c κs =
+    let p = uncredited-put (c .before .before .before) in
+    let s = start (c .before .before .before .before .before .before .before .before .before .before .before .before .before .before .before .before .before .before .before .before) in
+    omega (arith, totals-long (s .args .r), s .pre .1, p .0, p .1)
+
+same-length : tie.Need-same-length
+same-length c = search needs
+
+returns : tie.Need-returns
+returns c =
+    let i = c .before .before .before .before .before .before in
+    let h = i .before .before .before .before in
+    let g = h .before .before .before .before in
+    let f = g .before .before .before .before .before in
+    let b = f .before .before .before .before in
+    let s = start b in
+    let w = totals-long (s .args .r) in
+    let room = s .pre .1 in
+    let e = ap wide (g .before .signed-figure .ensures) in
+    let second = rw (g .before .signed-figure .ensures) at (g .put-figure2 .ensures) in
+    rw (totals-line (s .args .r))
+    (then (omega (arith, w, room)) (b .put-byte .ensures)
+    (then (omega (arith, w, room, letter-put b .0, letter-put b .1)) (f .put-figure .ensures)
+    (then (omega (arith, w, room, left-put f .0, left-put f .1)) second
+    (then (omega (arith, w, room, entered-put g .0, entered-put g .1)) (h .put-figure3 .ensures)
+    (then (omega (arith, w, room, raised-put h .0, raised-put h .1)) (i .put-figure4 .ensures) (c .before .before .put-byte2 .ensures))))))
+
+pub put-totals-spec : {M : Type 1} → statement M
+put-totals-spec =
+    tie.close
+    (tie.spec
+    put-byte-requires
+    put-figure-requires
+    signed-figure-requires
+    put-figure-requires-2
+    put-figure-requires-3
+    put-figure-requires-4
+    put-byte-requires-2
+    same-length
+    returns)
