@@ -1,9 +1,13 @@
 -- Laws of tests. Assumes nothing.
-use mathlib.Core.Path.{_≡_, refl, sym}
+use mathlib.Core.Path.{_≡_, refl, sym, _∙_}
 use mathlib.Core.Logic.{_⊎_, inl, inr}
 use mathlib.Core.Bool.{Bool, true, false, _&&_, _||_}
-use Prim.Native.Nat.{ℕ}
+use Prim.Native.Nat.{ℕ, suc, _<_}
+use native.Mathlib.Nat.{lt-of-not-le}
+use native.Mathlib.Decide.{decLe}
 use native.Mathlib.Omega.{arith}
+use borrow.Author.Tests.{lt-ltb, le-ltb}
+use lib.Dec.{ltb}
 
 pub never : _≡_ {A = Bool} false true → ⊥
 never e = let z : _≡_ {A = ℕ} 0 1 = cc in omega arith
@@ -19,3 +23,10 @@ or-neither false b h = (refl, h)
 pub or-either : (a b : Bool) → (a || b) ≡ true → (a ≡ true) ⊎ (b ≡ true)
 or-either true b h = inl refl
 or-either false b h = inr h
+
+pub ltb-suc : (a b : ℕ) → ltb (suc a) (suc b) ≡ ltb a b
+ltb-suc a b =
+    elim (decLe b a) [
+      | yes h ↦ le-ltb (suc a) (suc b) (omega arith) ∙ sym (le-ltb a b h)
+      | no h ↦ let g : a < b = lt-of-not-le h in lt-ltb (suc a) (suc b) (omega arith) ∙ sym (lt-ltb a b g)
+    ]

@@ -14,7 +14,7 @@ use Rattle.lines.specs.declared.Kind.{Kind}
 use Rattle.lines.specs.declared.Kind.the-variants.{Process, SourceStream, Heat, WasteGas, Power, BoughtPrecursor, OwnGood, Unknown}
 use Rattle.lines.specs.Words.{ReadAt, lineAt, lineLength, words}
 use Rattle.lines.specs.declared.LineRead.{LineRead}
-use Rattle.records.proofs.NextLine.{lines-step, lines-done, line-ended}
+use Rattle.places.proofs.NextLine.{lines-step, lines-done, line-ended}
 use Rattle.goods.specs.Settling.{SIZE, PAIRS}
 use Rattle.ledger.specs.Ledger.{Small}
 use Rattle.quantity.specs.Limits.{limits}

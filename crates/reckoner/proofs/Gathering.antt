@@ -12,7 +12,7 @@ use Rattle.decimal.proofs.Bools.{or-either}
 use Rattle.quantity.specs.Limits.{limits}
 use Rattle.lines.specs.declared.Kind.the-variants.{Process}
 use Rattle.lines.specs.Records.{Record, recordsOf, is}
-use Rattle.records.proofs.NextLine.{lines-done}
+use Rattle.places.proofs.NextLine.{lines-done}
 use Rattle.ledger.proofs.Bounds.{within-more}
 use Rattle.sheet.specs.Refusals.{sumOf, anyOf, process, outputIn}
 use Rattle.attribution.specs.Attribution.{indirect}

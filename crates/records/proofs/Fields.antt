@@ -12,13 +12,13 @@ use borrow.Author.Tests.{eq-eqb, ne-eqb, eqb-true, lt-ltb, le-ltb, ltb-true}
 use lib.Dec.{eqb, ltb}
 use lib.ListN.{length, take, drop, set, getD, replicate, length-take, length-drop, length-set, length-map}
 use lib.Seq.{sets, set-out, drop-cons, drop-drop, getD-drop}
-use Rattle.decimal.proofs.Bools.{and-both}
+use Rattle.decimal.proofs.Bools.{and-both, ltb-suc}
 use Rattle.lines.specs.Lines.{LF, COMMA, beforeField, fieldsOf}
 use Rattle.lines.specs.Records.{Field, number, dash, other, kindOf, kindIn, fieldOf, recordOf}
 use Rattle.lines.specs.Words.{word, words, lineLength, lineAt, ReadAt}
 use Rattle.fields.specs.Scan.{fieldLength, fieldAt, saidOf, wordOf, FieldReadAt, EndsInLF}
 use Rattle.fields.proofs.Scanning.{field-one, not-last}
-use Rattle.records.specs.Places.{commaAt, stored, fieldEnd, FieldsBefore, firstWord, otherWords, ShortFieldsAt}
+use Rattle.records.specs.Reading.{commaAt, stored, fieldEnd, FieldsBefore, firstWord, otherWords, ShortFieldsAt}
 use Rattle.records.specs.declared.ShortFields.{ShortFields}
 use Rattle.lines.specs.declared.Kind.{Kind}
 use Rattle.lines.specs.declared.Kind.the-variants.{Unknown}
@@ -46,13 +46,6 @@ line-fields b bs = go (eqb b LF)
         ≡ cond t ([] ∷ []) (cond (eqb b COMMA) ([] ∷ fieldsOf (take (lineLength bs) bs)) (beforeField b (fieldsOf (take (lineLength bs) bs))))
     go true = refl
     go false = refl
-
-pub ltb-suc : (a b : ℕ) → ltb (suc a) (suc b) ≡ ltb a b
-ltb-suc a b =
-    elim (decLe b a) [
-      | yes h ↦ le-ltb (suc a) (suc b) (omega arith) ∙ sym (le-ltb a b h)
-      | no h ↦ let g : a < b = lt-of-not-le h in lt-ltb (suc a) (suc b) (omega arith) ∙ sym (lt-ltb a b g)
-    ]
 
 comma-suc : (b : ℕ) (bs : List ℕ) (n : ℕ) → commaAt (b ∷ bs) (suc n) ≡ commaAt bs n
 comma-suc b bs n = ap (λ (t : Bool). cond t (eqb (getD bs n 0) COMMA) false) (ltb-suc n (length bs))

@@ -1,2 +1,2 @@
--- A line and a line's place as the code finds them.
-pub mod Places
+-- A line's fields as the code reads them.
+pub mod Reading

@@ -4,11 +4,11 @@ ghost use Prim.Native.Nat.{_≤_};
 ghost use lib.ListN;
 ghost use Rattle.quantity.specs.Limits.{limits};
 ghost use Rattle.lines.specs.Lines.{linesOf, lineBytes, lineStart};
-ghost use Rattle.records.specs.Places.{PlaceOf};
+ghost use Rattle.places.specs.LinePlace.{PlaceOf};
 ghost use Rattle.report.specs.Outcome.{outcome};
 ghost use Rattle.rows.specs.Held.{LONGEST};
 ghost use Rattle.writer.specs.Given.{gives};
-use records::line_place;
+use places::line_place;
 use writer::LONGEST;
 use writer::report;
 

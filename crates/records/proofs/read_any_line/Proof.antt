@@ -4,7 +4,7 @@ use Prim.Native.Nat.{_-_, _≤_, _<_}
 use borrow.Author.Needs.{needs}
 use native.Mathlib.Omega.{arith}
 use lib.ListN.{length}
-use Rattle.records.specs.Places.{commaAt}
+use Rattle.records.specs.Reading.{commaAt}
 use Rattle.records.proofs.Fields.{comma-in, FieldsRead, none-read, one-read, all-read}
 use Rattle.records.proofs.read_any_line.Statement.{statement}
 use Rattle.records.proofs.read_any_line.Tie as tie

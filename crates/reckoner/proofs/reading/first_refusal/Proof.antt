@@ -6,7 +6,7 @@ use Rattle.reckoner.proofs.reading.first_refusal.Statement.{statement}
 use Rattle.reckoner.proofs.reading.first_refusal.Tie as tie
 use Rattle.reckoner.proofs.reading.first_refusal.Reads as reads
 use Rattle.reckoner.proofs.reading.first_refusal.Lts as lts
-use Rattle.records.proofs.line_end.Reads as line-end-reads
+use Rattle.places.proofs.line_end.Reads as line-end-reads
 use Rattle.records.proofs.line_kind.Reads as line-kind-reads
 use Rattle.works.proofs.judging.letter_of.Reads as letter-of-reads
 

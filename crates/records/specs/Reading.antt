@@ -1,16 +1,15 @@
--- A line and a line's place as the code finds them. Laws join them to Records and Lines; nothing here adds to document 01's meaning.
+-- A line's fields as the code reads them. Laws join them to Records; nothing here adds to document 01's meaning.
 use mathlib.Core.Path.{_≡_}
 use mathlib.Core.Bool.{Bool, false, cond}
 use mathlib.Core.List.{List, [], _∷_}
-use Prim.Native.Nat.{ℕ, suc, _+_, _-_, min, _≤_}
+use Prim.Native.Nat.{ℕ, suc, _+_, _-_}
 use lib.Dec.{eqb, ltb}
 use lib.ListN.{length, take, drop, getD, set, replicate}
 use lib.Seq.{sets}
-use Rattle.lines.specs.Lines.{LF, COMMA, linesOf, lineBytes, lineStart}
+use Rattle.lines.specs.Lines.{LF, COMMA}
 use Rattle.lines.specs.declared.Kind.{Kind}
 use Rattle.lines.specs.declared.Kind.the-variants.{Process, SourceStream, Heat, WasteGas, Power, BoughtPrecursor, OwnGood, Unknown}
 use Rattle.fields.specs.Scan.{fieldLength, FieldBefore}
-use Rattle.records.specs.declared.Place.{Place}
 use Rattle.records.specs.declared.ShortFields.{ShortFields}
 
 -- whether a comma stands at a place of the sheet
@@ -54,9 +53,3 @@ pub record ShortFieldsAt (sheet : List ℕ) (start : ℕ) (f : ShortFields) : Ty
   pub before : FieldsBefore sheet start LF (firstWord f) (otherWords f) (f .end)
   pub words : f .words ≡ sets (replicate 8 0) 0 (firstWord f ∷ otherWords f)
   pub count : f .count ≡ suc (length (otherWords f))
-
--- the place of line n; past the last line, the sheet's end
-pub record PlaceOf (sheet : List ℕ) (n : ℕ) (p : Place) : Type 0 where
-  pub start : p .start ≡ min (lineStart (linesOf sheet) n) (length sheet)
-  pub size : p .length ≡ length (lineBytes (linesOf sheet) n)
-  pub inside : p .start + p .length ≤ length sheet

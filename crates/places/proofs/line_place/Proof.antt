@@ -1,7 +1,7 @@
 use borrow.Author.Needs.{needs}
-use Rattle.records.proofs.NextLine.{place-none, place-past, place-of}
-use Rattle.records.proofs.line_place.Statement.{statement}
-use Rattle.records.proofs.line_place.Tie as tie
+use Rattle.places.proofs.NextLine.{place-none, place-past, place-of}
+use Rattle.places.proofs.line_place.Statement.{statement}
+use Rattle.places.proofs.line_place.Tie as tie
 
 returns : tie.Need-returns
 returns c = rw (c .if1 .taken) (place-none _)

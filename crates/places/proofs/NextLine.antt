@@ -11,12 +11,12 @@ use borrow.Author.Tests.{eq-eqb, ne-eqb, lt-ltb, le-ltb}
 use lib.Dec.{eqb, ltb}
 use lib.ListN.{length, take, drop, getD, length-take, length-drop, drop-of-length-le}
 use lib.Seq.{take-nil, drop-cons, drop-drop}
+use Rattle.decimal.proofs.Bools.{ltb-suc}
 use Rattle.lines.specs.Lines.{LF, Line, line, beforeLine, linesOf, lineBytes, lineStart}
 use Rattle.lines.specs.Words.{lineLength, lineAt}
-use Rattle.records.specs.Places.{PlaceOf}
-use Rattle.records.specs.declared.Place.{Place}
+use Rattle.places.specs.LinePlace.{PlaceOf}
+use Rattle.places.specs.declared.Place.{Place}
 use Rattle.lines.proofs.OneRecord.{line-part}
-use Rattle.records.proofs.Fields.{ltb-suc}
 
 -- ---- a line's length, byte by byte
 

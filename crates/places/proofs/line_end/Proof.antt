@@ -3,9 +3,9 @@ use Prim.Native.Nat.{_+_, _-_, _≤_}
 use native.Mathlib.Omega.{arith}
 use lib.ListN.{length, drop}
 use Rattle.lines.specs.Words.{lineLength}
-use Rattle.records.proofs.NextLine.{line-past, line-LF, line-none}
-use Rattle.records.proofs.line_end.Statement.{statement}
-use Rattle.records.proofs.line_end.Tie as tie
+use Rattle.places.proofs.NextLine.{line-past, line-LF, line-none}
+use Rattle.places.proofs.line_end.Statement.{statement}
+use Rattle.places.proofs.line_end.Tie as tie
 
 abbrev Inv-loop : tie.InvT-loop
 Inv-loop s start end₀ end = (start ≤ end) × (end ≤ length s) × (end + lineLength (drop end s) ≡ start + lineLength (drop start s))

@@ -3,9 +3,9 @@ use Prim.Native.Nat.{_+_}
 use native.Mathlib.Omega.{arith}
 use lib.ListN.{drop}
 use Rattle.lines.specs.Lines.{linesOf, lineStart}
-use Rattle.records.proofs.NextLine.{start-first, start-past, start-later}
-use Rattle.records.proofs.line_start.Statement.{statement}
-use Rattle.records.proofs.line_start.Tie as tie
+use Rattle.places.proofs.NextLine.{start-first, start-past, start-later}
+use Rattle.places.proofs.line_start.Statement.{statement}
+use Rattle.places.proofs.line_start.Tie as tie
 
 abbrev Inv-loop : tie.InvT-loop
 Inv-loop s line start₀ left₀ start left = start + lineStart (linesOf (drop start s)) left ≡ lineStart (linesOf s) line

@@ -1,7 +1,7 @@
 use borrow.Author.Needs.{needs}
-use Rattle.records.proofs.NextLine.{place-bytes}
-use Rattle.records.proofs.offending_line.Statement.{statement}
-use Rattle.records.proofs.offending_line.Tie as tie
+use Rattle.places.proofs.NextLine.{place-bytes}
+use Rattle.places.proofs.offending_line.Statement.{statement}
+use Rattle.places.proofs.offending_line.Tie as tie
 
 line-place-requires : tie.Need-line-place-requires
 line-place-requires c κs = search needs

@@ -1,0 +1,2 @@
+-- A line's place as the code finds it.
+pub mod LinePlace
