@@ -20,7 +20,8 @@ use Rattle.quantity.specs.Limits.{limits}
 use Rattle.goods.specs.Settling.{SIZE}
 use Rattle.ledger.specs.Raising.{raisedToZero, gramsAdded}
 use Rattle.entries.specs.Weighed.{streamOf, heatOf, chargeOf, creditOf, powerOf, boughtDirectOf, boughtIndirectOf}
-use Rattle.entries.specs.Entries.{moved, bought, entryOf, entry}
+use Rattle.moves.specs.Moved.{moved, bought}
+use Rattle.entries.specs.Entries.{entryOf, entry}
 use Rattle.entries.specs.Read.{recordRead, Shaped, orStandardWord}
 use Rattle.entries.proofs.KindWords.{heat-words, gas-words, power-words, bought-words}
 use Rattle.entries.proofs.StreamWords.{process-word, method-word, stream-words}

@@ -4,4 +4,3 @@ pub mod InRange
 pub mod KindWords
 pub mod StreamWords
 pub mod KindEntries
-pub mod Amounts

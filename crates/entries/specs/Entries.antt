@@ -1,52 +1,17 @@
 -- Each line as one entry, which the code books: the grams it moves between processes, and what of them enters the works, leaves it and
 -- stays uncredited. Process 0 is outside the works. Laws join it to Attribution and Reckoning; nothing here adds to document 01's meaning.
 use mathlib.Core.Bool.{cond, _||_}
-use Prim.Native.Nat.{ℕ, _+_, _-_}
+use Prim.Native.Nat.{ℕ, _-_}
 use lib.Dec.{eqb}
-use Rattle.quantity.specs.declared.Grams.{Grams}
 use Rattle.lines.specs.Records.{Record}
 use Rattle.lines.specs.declared.Kind.{Kind}
 use Rattle.lines.specs.declared.Kind.the-variants.{Process, SourceStream, Heat, WasteGas, Power, BoughtPrecursor, OwnGood, Unknown}
 use Rattle.sheet.specs.Refusals.{process, from, to}
 use Rattle.goods.specs.Sums.{onlyAt}
 use Rattle.ledger.specs.Raising.{raisedToZero, gramsAdded}
+use Rattle.moves.specs.Moved.{moved, bought}
 use Rattle.entries.specs.Weighed.{streamOf, heatOf, chargeOf, creditOf, powerOf, boughtDirectOf, boughtIndirectOf}
 use Rattle.ledger.specs.declared.Entry.{Entry}
-
-abbrev pub grams : ℕ → Grams
-grams n = record { 0 = n }
-
-abbrev pub moved : (charged charge credited credit user power entering leaving lost : ℕ) → Entry
-moved charged charge credited credit user power entering leaving lost = record {
-  charged = charged;
-  charge = grams charge;
-  credited = credited;
-  credit = grams credit;
-  user = user;
-  power = grams power;
-  buyer = 0;
-  direct = grams 0;
-  indirect = grams 0;
-  entering = grams entering;
-  leaving = grams leaving;
-  lost = grams lost;
-}
-
-abbrev pub bought : (buyer direct indirect : ℕ) → Entry
-bought buyer direct indirect = record {
-  charged = 0;
-  charge = grams 0;
-  credited = 0;
-  credit = grams 0;
-  user = 0;
-  power = grams 0;
-  buyer = buyer;
-  direct = grams direct;
-  indirect = grams indirect;
-  entering = grams (direct + indirect);
-  leaving = grams 0;
-  lost = grams 0;
-}
 
 -- charge minus credit, where neither end is outside
 abbrev pub betweenProcesses : Record → (grams : ℕ) → ℕ

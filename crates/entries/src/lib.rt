@@ -1,6 +1,5 @@
 // Document 01, "Attribution": a line that was read, weighed, as one entry.
 mod given;
-mod moves;
 
 ghost use mathlib.Core.Path.{_≡_};
 ghost use Prim.Native.Nat.{_≤_};

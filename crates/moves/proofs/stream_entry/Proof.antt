@@ -3,10 +3,10 @@ use Prim.Native.Nat.{ℕ}
 use native.Mathlib.Omega.{arith}
 use borrow.Author.Needs.{needs}
 use Rattle.ledger.specs.Raising.{raisedToZero, gramsAdded}
-use Rattle.entries.specs.Entries.{moved}
-use Rattle.entries.proofs.Amounts.{raised-small, added-small}
-use Rattle.entries.proofs.moves.stream_entry.Statement.{statement}
-use Rattle.entries.proofs.moves.stream_entry.Tie as tie
+use Rattle.moves.specs.Moved.{moved}
+use Rattle.moves.proofs.Amounts.{raised-small, added-small}
+use Rattle.moves.proofs.stream_entry.Statement.{statement}
+use Rattle.moves.proofs.stream_entry.Tie as tie
 
 raise-requires : tie.Need-raise-requires
 raise-requires c κs = omega (arith, c .pre .1)

@@ -1,7 +1,7 @@
 use mathlib.Core.Path.{refl}
 use borrow.Author.Needs.{needs}
-use Rattle.entries.proofs.moves.bought_entry.Statement.{statement}
-use Rattle.entries.proofs.moves.bought_entry.Tie as tie
+use Rattle.moves.proofs.bought_entry.Statement.{statement}
+use Rattle.moves.proofs.bought_entry.Tie as tie
 
 add-t6 : tie.Need-add-t6
 add-t6 c = search needs

@@ -1,9 +1,9 @@
 use mathlib.Core.Path.{ap₂}
 use Prim.Native.Nat.{ℕ}
 use borrow.Author.Needs.{needs}
-use Rattle.entries.specs.Entries.{moved}
-use Rattle.entries.proofs.moves.heat_entry.Statement.{statement}
-use Rattle.entries.proofs.moves.heat_entry.Tie as tie
+use Rattle.moves.specs.Moved.{moved}
+use Rattle.moves.proofs.heat_entry.Statement.{statement}
+use Rattle.moves.proofs.heat_entry.Tie as tie
 
 outside-requires : tie.Need-outside-requires
 outside-requires c κs = search needs

@@ -9,7 +9,7 @@ ghost use Rattle.goods.specs.Settling.{SIZE};
 ghost use Rattle.ledger.specs.Ledger.{Small};
 ghost use Rattle.ledger.specs.Raising.{raisedToZero, gramsAdded};
 ghost use Rattle.quantity.specs.Weights.{wasteGasCharge, wasteGasCredit};
-ghost use Rattle.entries.specs.Entries.{moved, bought};
+ghost use Rattle.moves.specs.Moved.{moved, bought};
 use ledger::Entry;
 use quantity::Grams;
 use quantity::Megajoules;

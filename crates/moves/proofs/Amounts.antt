@@ -7,7 +7,7 @@ use native.Mathlib.Omega.{arith}
 use lib.Dec.{eqb}
 use lib.IntN.{ℤ, pos, negsuc, natAbs}
 use Rattle.goods.specs.Sums.{onlyAt}
-use Rattle.entries.specs.Entries.{moved}
+use Rattle.moves.specs.Moved.{moved}
 use Rattle.ledger.specs.Raising.{raisedToZero, gramsAdded}
 
 -- what is counted plus and what is counted minus are no larger than the whole

@@ -1,0 +1,2 @@
+-- Laws of the amounts of an entry.
+pub mod Amounts

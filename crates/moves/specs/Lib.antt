@@ -1,0 +1,2 @@
+-- An entry by what it moves.
+pub mod Moved
