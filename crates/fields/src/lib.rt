@@ -210,7 +210,7 @@ fn is_number(s: &[u8], start: usize, end: usize, stop: u8) -> bool
 }
 
 // The field that starts here, if it is a short number and `stop` stands behind it.
-pub fn short_number(s: &[u8], start: usize, stop: u8) -> ShortRead
+fn short_number(s: &[u8], start: usize, stop: u8) -> ShortRead
     requires { ⌜ (start < length (now s)) × EndsInLF (now s) ⌝ }
     requires { ⌜ (stop ≡ COMMA) ⊎ (stop ≡ LF) ⌝ }
     ensures { λ r. ⌜ (r .read ≡ true → FieldBefore (now (s .entry)) start stop (r .word) (r .end)) ⌝ }
@@ -230,6 +230,10 @@ pub fn short_word(s: &[u8], start: usize, stop: u8) -> ShortRead
     requires { ⌜ (stop ≡ COMMA) ⊎ (stop ≡ LF) ⌝ }
     ensures { λ r. ⌜ (r .read ≡ true → FieldBefore (now (s .entry)) start stop (r .word) (r .end)) ⌝ }
 {
+    let number = short_number(s, start, stop);
+    if number.read {
+        return number;
+    }
     if s[start] == b'-' {
         let end = start + 1;
         return ShortRead {
@@ -238,5 +242,5 @@ pub fn short_word(s: &[u8], start: usize, stop: u8) -> ShortRead
             end,
         };
     }
-    short_number(s, start, stop)
+    number
 }

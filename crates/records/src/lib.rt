@@ -12,7 +12,6 @@ ghost use Rattle.fields.specs.Scan.{EndsInLF};
 ghost use Rattle.records.specs.Reading.{commaAt, stored, usualFields, FieldsBefore, ShortFieldsAt};
 use fields::first_end;
 use fields::read_field;
-use fields::short_number;
 use fields::short_word;
 use fields::word_of;
 use lines::Kind;
@@ -101,7 +100,7 @@ fn read_any_line(s: &[u8], start: usize) -> LineRead
     }
 }
 
-// ---- a line of short numbers, in a sheet whose last byte is LF: its fields are read one by one, with no loop over them
+// ---- a line of short numbers and `-`, in a sheet whose last byte is LF: its fields are read one by one, with no loop over them
 
 // Two words, and the place of the byte behind the second.
 struct TwoRead {
@@ -119,40 +118,16 @@ struct ShortFields {
     end: usize,
 }
 
-// Two numbers, `stop` behind the second.
-fn two_numbers(s: &[u8], start: usize, stop: u8) -> TwoRead
+// Two fields that are short numbers or `-`, `stop` behind the second.
+fn two_words(s: &[u8], start: usize, stop: u8) -> TwoRead
     requires { ⌜ (start < length (now s)) × EndsInLF (now s) ⌝ }
     requires { ⌜ (stop ≡ COMMA) ⊎ (stop ≡ LF) ⌝ }
     ensures { λ r. ⌜ (r .read ≡ true → FieldsBefore (now (s .entry)) start stop (r .first) (r .second ∷ []) (r .end)) ⌝ }
 {
-    let a = short_number(s, start, b',');
-    let end = a.end;
-    if a.read {
-        let b = short_number(s, end + 1, stop);
-        return TwoRead {
-            read: b.read,
-            first: a.word,
-            second: b.word,
-            end: b.end,
-        };
-    }
-    TwoRead {
-        read: false,
-        first: 0,
-        second: 0,
-        end,
-    }
-}
-
-// Two fields that are numbers or `-`, a comma behind the second.
-fn two_words(s: &[u8], start: usize) -> TwoRead
-    requires { ⌜ (start < length (now s)) × EndsInLF (now s) ⌝ }
-    ensures { λ r. ⌜ (r .read ≡ true → FieldsBefore (now (s .entry)) start COMMA (r .first) (r .second ∷ []) (r .end)) ⌝ }
-{
     let a = short_word(s, start, b',');
     let end = a.end;
     if a.read {
-        let b = short_word(s, end + 1, b',');
+        let b = short_word(s, end + 1, stop);
         return TwoRead {
             read: b.read,
             first: a.word,
@@ -184,7 +159,7 @@ fn two_fields(s: &[u8], start: usize) -> ShortFields
     requires { ⌜ (start < length (now s)) × EndsInLF (now s) ⌝ }
     ensures { λ r. ⌜ (r .read ≡ true → ShortFieldsAt (now (s .entry)) start r) ⌝ }
 {
-    let x = two_numbers(s, start, b'\n');
+    let x = two_words(s, start, b'\n');
     ShortFields {
         read: x.read,
         count: 2,
@@ -197,9 +172,9 @@ fn three_fields(s: &[u8], start: usize) -> ShortFields
     requires { ⌜ (start < length (now s)) × EndsInLF (now s) ⌝ }
     ensures { λ r. ⌜ (r .read ≡ true → ShortFieldsAt (now (s .entry)) start r) ⌝ }
 {
-    let x = two_numbers(s, start, b',');
+    let x = two_words(s, start, b',');
     if x.read {
-        let y = short_number(s, x.end + 1, b'\n');
+        let y = short_word(s, x.end + 1, b'\n');
         return ShortFields {
             read: y.read,
             count: 3,
@@ -214,9 +189,9 @@ fn four_fields(s: &[u8], start: usize) -> ShortFields
     requires { ⌜ (start < length (now s)) × EndsInLF (now s) ⌝ }
     ensures { λ r. ⌜ (r .read ≡ true → ShortFieldsAt (now (s .entry)) start r) ⌝ }
 {
-    let x = two_numbers(s, start, b',');
+    let x = two_words(s, start, b',');
     if x.read {
-        let y = two_numbers(s, x.end + 1, b'\n');
+        let y = two_words(s, x.end + 1, b'\n');
         return ShortFields {
             read: y.read,
             count: 4,
@@ -227,18 +202,17 @@ fn four_fields(s: &[u8], start: usize) -> ShortFields
     no_fields(start)
 }
 
-// Of a source stream a and b may be `-`.
 fn eight_fields(s: &[u8], start: usize) -> ShortFields
     requires { ⌜ (start < length (now s)) × EndsInLF (now s) ⌝ }
     ensures { λ r. ⌜ (r .read ≡ true → ShortFieldsAt (now (s .entry)) start r) ⌝ }
 {
-    let x = two_numbers(s, start, b',');
+    let x = two_words(s, start, b',');
     if x.read {
-        let y = two_numbers(s, x.end + 1, b',');
+        let y = two_words(s, x.end + 1, b',');
         if y.read {
-            let z = two_words(s, y.end + 1);
+            let z = two_words(s, y.end + 1, b',');
             if z.read {
-                let u = two_numbers(s, z.end + 1, b'\n');
+                let u = two_words(s, z.end + 1, b'\n');
                 return ShortFields {
                     read: u.read,
                     count: 8,

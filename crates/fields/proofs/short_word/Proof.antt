@@ -10,37 +10,41 @@ use Rattle.fields.proofs.short_word.Reads as reads
 use Rattle.fields.proofs.short_word.Lts as lts
 use Rattle.fields.proofs.short_number.Reads as short-number-reads
 
-shared-slice-read-if1 : tie.Need-shared-slice-read-if1
-shared-slice-read-if1 c = search needs
+short-number-requires : tie.Need-short-number-requires
+short-number-requires c κs = search needs
+
+returns : tie.Need-returns
+returns c = search needs
+
+shared-slice-read-if2 : tie.Need-shared-slice-read-if2
+shared-slice-read-if2 c = search needs
 
 add-end : tie.Need-add-end
 add-end c = search needs
 
-shared-slice-read-t9 : tie.Need-shared-slice-read-t9
-shared-slice-read-t9 c =
-    let s = c .before .before .before .before in
-    let dash : getD (s .args .s .now) (s .args .start) 0 ≡ 45 = c .before .if1 .taken in
+shared-slice-read-t10 : tie.Need-shared-slice-read-t10
+shared-slice-read-t10 c =
+    let s = c .before .before .before .before .before .before in
+    let dash : getD (s .args .s .now) (s .args .start) 0 ≡ 45 = c .before .if2 .taken in
     not-last (s .args .s .now) (s .args .start) (s .pre .0 .1) (s .pre .0 .0) (λ e. omega arith)
 
-returns : tie.Need-returns
-returns c = λ e.
-    let s = c .before .before .before .before in
-    let dash : getD (s .args .s .now) (s .args .start) 0 ≡ 45 = c .before .if1 .taken in
+returns-2 : tie.Need-returns-2
+returns-2 c = λ e.
+    let s = c .before .before .before .before .before .before in
+    let dash : getD (s .args .s .now) (s .args .start) 0 ≡ 45 = c .before .if2 .taken in
     dash-before _ _ _ (s .pre .1) (not-last (s .args .s .now) (s .args .start) (s .pre .0 .1) (s .pre .0 .0) (λ g. omega arith)) dash (eqb-true _ _ e)
 
-short-number-requires : tie.Need-short-number-requires
-short-number-requires c κs = search needs
-
-returns-2 : tie.Need-returns-2
-returns-2 c = search needs
+returns-3 : tie.Need-returns-3
+returns-3 c = search needs
 
 pub short-word-spec : {M : Type 1} → statement M
 short-word-spec =
     tie.close
     (tie.spec
-    shared-slice-read-if1
-    add-end
-    shared-slice-read-t9
-    returns
     short-number-requires
-    returns-2)
+    returns
+    shared-slice-read-if2
+    add-end
+    shared-slice-read-t10
+    returns-2
+    returns-3)

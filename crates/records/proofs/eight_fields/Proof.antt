@@ -9,57 +9,56 @@ use Rattle.records.proofs.eight_fields.Tie as tie
 use Rattle.records.proofs.eight_fields.Reads as reads
 use Rattle.records.proofs.eight_fields.Lts as lts
 use Rattle.records.proofs.no_fields.Reads as no-fields-reads
-use Rattle.records.proofs.two_numbers.Reads as two-numbers-reads
 use Rattle.records.proofs.two_words.Reads as two-words-reads
 
-two-numbers-requires : tie.Need-two-numbers-requires
-two-numbers-requires c κs = (c .before .pre, inl refl)
-
-add-two-numbers : tie.Need-add-two-numbers
-add-two-numbers c =
-    let s = c .before .before .before .before in
-    let h = before-next _ _ (_ ∷ []) _ _ (s .pre .1) (c .before .before .two-numbers .ensures (c .before .if1 .taken)) in
-    omega arith
-
-two-numbers-requires-2 : tie.Need-two-numbers-requires-2
-two-numbers-requires-2 c κs =
-    let s = c .before .before .before .before in
-    ((before-next _ _ (_ ∷ []) _ _ (s .pre .1) (c .before .before .two-numbers .ensures (c .before .if1 .taken)), s .pre .1), inl refl)
+two-words-requires : tie.Need-two-words-requires
+two-words-requires c κs = (c .before .pre, inl refl)
 
 add-two-words : tie.Need-add-two-words
 add-two-words c =
-    let s = c .before .before .before .before .before .before .before in
-    let h = before-next _ _ (_ ∷ []) _ _ (s .pre .1) (c .before .before .two-numbers2 .ensures (c .before .if2 .taken)) in
+    let s = c .before .before .before .before in
+    let h = before-next _ _ (_ ∷ []) _ _ (s .pre .1) (c .before .before .two-words .ensures (c .before .if1 .taken)) in
     omega arith
 
-two-words-requires : tie.Need-two-words-requires
-two-words-requires c κs =
-    let s = c .before .before .before .before .before .before .before in
-    (before-next _ _ (_ ∷ []) _ _ (s .pre .1) (c .before .before .two-numbers2 .ensures (c .before .if2 .taken)), s .pre .1)
+two-words-requires-2 : tie.Need-two-words-requires-2
+two-words-requires-2 c κs =
+    let s = c .before .before .before .before in
+    ((before-next _ _ (_ ∷ []) _ _ (s .pre .1) (c .before .before .two-words .ensures (c .before .if1 .taken)), s .pre .1), inl refl)
 
-add-two-numbers-2 : tie.Need-add-two-numbers-2
-add-two-numbers-2 c =
-    let s = c .before .before .before .before .before .before .before .before .before .before in
-    let h = before-next _ _ (_ ∷ []) _ _ (s .pre .1) (c .before .before .two-words .ensures (c .before .if3 .taken)) in
+add-two-words-2 : tie.Need-add-two-words-2
+add-two-words-2 c =
+    let s = c .before .before .before .before .before .before .before in
+    let h = before-next _ _ (_ ∷ []) _ _ (s .pre .1) (c .before .before .two-words2 .ensures (c .before .if2 .taken)) in
     omega arith
 
-two-numbers-requires-3 : tie.Need-two-numbers-requires-3
-two-numbers-requires-3 c κs =
+two-words-requires-3 : tie.Need-two-words-requires-3
+two-words-requires-3 c κs =
+    let s = c .before .before .before .before .before .before .before in
+    ((before-next _ _ (_ ∷ []) _ _ (s .pre .1) (c .before .before .two-words2 .ensures (c .before .if2 .taken)), s .pre .1), inl refl)
+
+add-two-words-3 : tie.Need-add-two-words-3
+add-two-words-3 c =
     let s = c .before .before .before .before .before .before .before .before .before .before in
-    ((before-next _ _ (_ ∷ []) _ _ (s .pre .1) (c .before .before .two-words .ensures (c .before .if3 .taken)), s .pre .1), inr refl)
+    let h = before-next _ _ (_ ∷ []) _ _ (s .pre .1) (c .before .before .two-words3 .ensures (c .before .if3 .taken)) in
+    omega arith
+
+two-words-requires-4 : tie.Need-two-words-requires-4
+two-words-requires-4 c κs =
+    let s = c .before .before .before .before .before .before .before .before .before .before in
+    ((before-next _ _ (_ ∷ []) _ _ (s .pre .1) (c .before .before .two-words3 .ensures (c .before .if3 .taken)), s .pre .1), inr refl)
 
 returns : tie.Need-returns
 returns c = λ e.
     let third = c .before .before .before in
     let second = third .before .before .before in
     let first = second .before .before .before in
-    let x = first .two-numbers .ensures (second .before .before .if1 .taken) in
-    let y = second .two-numbers2 .ensures (third .before .before .if2 .taken) in
-    let z = third .two-words .ensures (c .before .before .if3 .taken) in
+    let x = first .two-words .ensures (second .before .before .if1 .taken) in
+    let y = second .two-words2 .ensures (third .before .before .if2 .taken) in
+    let z = third .two-words3 .ensures (c .before .before .if3 .taken) in
     let xy = before-append _ _ _ (_ ∷ []) _ (_ ∷ []) _ _ _ x y in
     let xyz = before-append _ _ _ (_ ∷ []) _ (_ ∷ _ ∷ _ ∷ []) _ _ _ xy z in
     record {
-      before = before-append _ _ _ (_ ∷ []) _ (_ ∷ _ ∷ _ ∷ _ ∷ _ ∷ []) _ _ _ xyz (c .two-numbers3 .ensures e);
+      before = before-append _ _ _ (_ ∷ []) _ (_ ∷ _ ∷ _ ∷ _ ∷ _ ∷ []) _ _ _ xyz (c .two-words4 .ensures e);
       words = refl;
       count = refl;
     }
@@ -74,13 +73,13 @@ pub eight-fields-spec : {M : Type 1} → statement M
 eight-fields-spec =
     tie.close
     (tie.spec
-    two-numbers-requires
-    add-two-numbers
-    two-numbers-requires-2
-    add-two-words
     two-words-requires
-    add-two-numbers-2
-    two-numbers-requires-3
+    add-two-words
+    two-words-requires-2
+    add-two-words-2
+    two-words-requires-3
+    add-two-words-3
+    two-words-requires-4
     returns
     no-fields-requires
     returns-2)

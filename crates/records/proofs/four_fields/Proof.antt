@@ -9,26 +9,26 @@ use Rattle.records.proofs.four_fields.Tie as tie
 use Rattle.records.proofs.four_fields.Reads as reads
 use Rattle.records.proofs.four_fields.Lts as lts
 use Rattle.records.proofs.no_fields.Reads as no-fields-reads
-use Rattle.records.proofs.two_numbers.Reads as two-numbers-reads
+use Rattle.records.proofs.two_words.Reads as two-words-reads
 
-two-numbers-requires : tie.Need-two-numbers-requires
-two-numbers-requires c κs = (c .before .pre, inl refl)
+two-words-requires : tie.Need-two-words-requires
+two-words-requires c κs = (c .before .pre, inl refl)
 
-add-two-numbers : tie.Need-add-two-numbers
-add-two-numbers c =
+add-two-words : tie.Need-add-two-words
+add-two-words c =
     let s = c .before .before .before .before in
-    let h = before-next _ _ (_ ∷ []) _ _ (s .pre .1) (c .before .before .two-numbers .ensures (c .before .if1 .taken)) in
+    let h = before-next _ _ (_ ∷ []) _ _ (s .pre .1) (c .before .before .two-words .ensures (c .before .if1 .taken)) in
     omega arith
 
-two-numbers-requires-2 : tie.Need-two-numbers-requires-2
-two-numbers-requires-2 c κs =
+two-words-requires-2 : tie.Need-two-words-requires-2
+two-words-requires-2 c κs =
     let s = c .before .before .before .before in
-    ((before-next _ _ (_ ∷ []) _ _ (s .pre .1) (c .before .before .two-numbers .ensures (c .before .if1 .taken)), s .pre .1), inr refl)
+    ((before-next _ _ (_ ∷ []) _ _ (s .pre .1) (c .before .before .two-words .ensures (c .before .if1 .taken)), s .pre .1), inr refl)
 
 returns : tie.Need-returns
 returns c = λ e.
-    let x = c .before .before .before .two-numbers .ensures (c .before .before .if1 .taken) in
-    record { before = before-append _ _ _ (_ ∷ []) _ (_ ∷ []) _ _ _ x (c .two-numbers2 .ensures e); words = refl; count = refl }
+    let x = c .before .before .before .two-words .ensures (c .before .before .if1 .taken) in
+    record { before = before-append _ _ _ (_ ∷ []) _ (_ ∷ []) _ _ _ x (c .two-words2 .ensures e); words = refl; count = refl }
 
 no-fields-requires : tie.Need-no-fields-requires
 no-fields-requires c κs = search needs
@@ -40,9 +40,9 @@ pub four-fields-spec : {M : Type 1} → statement M
 four-fields-spec =
     tie.close
     (tie.spec
-    two-numbers-requires
-    add-two-numbers
-    two-numbers-requires-2
+    two-words-requires
+    add-two-words
+    two-words-requires-2
     returns
     no-fields-requires
     returns-2)

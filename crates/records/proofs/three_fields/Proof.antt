@@ -9,27 +9,27 @@ use Rattle.records.proofs.three_fields.Tie as tie
 use Rattle.records.proofs.three_fields.Reads as reads
 use Rattle.records.proofs.three_fields.Lts as lts
 use Rattle.records.proofs.no_fields.Reads as no-fields-reads
-use Rattle.records.proofs.two_numbers.Reads as two-numbers-reads
-use Rattle.fields.proofs.short_number.Reads as short-number-reads
+use Rattle.records.proofs.two_words.Reads as two-words-reads
+use Rattle.fields.proofs.short_word.Reads as short-word-reads
 
-two-numbers-requires : tie.Need-two-numbers-requires
-two-numbers-requires c κs = (c .before .pre, inl refl)
+two-words-requires : tie.Need-two-words-requires
+two-words-requires c κs = (c .before .pre, inl refl)
 
-add-short-number : tie.Need-add-short-number
-add-short-number c =
+add-short-word : tie.Need-add-short-word
+add-short-word c =
     let s = c .before .before .before .before in
-    let h = before-next _ _ (_ ∷ []) _ _ (s .pre .1) (c .before .before .two-numbers .ensures (c .before .if1 .taken)) in
+    let h = before-next _ _ (_ ∷ []) _ _ (s .pre .1) (c .before .before .two-words .ensures (c .before .if1 .taken)) in
     omega arith
 
-short-number-requires : tie.Need-short-number-requires
-short-number-requires c κs =
+short-word-requires : tie.Need-short-word-requires
+short-word-requires c κs =
     let s = c .before .before .before .before in
-    ((before-next _ _ (_ ∷ []) _ _ (s .pre .1) (c .before .before .two-numbers .ensures (c .before .if1 .taken)), s .pre .1), inr refl)
+    ((before-next _ _ (_ ∷ []) _ _ (s .pre .1) (c .before .before .two-words .ensures (c .before .if1 .taken)), s .pre .1), inr refl)
 
 returns : tie.Need-returns
 returns c = λ e.
-    let x = c .before .before .before .two-numbers .ensures (c .before .before .if1 .taken) in
-    record { before = before-append _ _ _ [] _ (_ ∷ []) _ _ _ x (c .short-number .ensures e); words = refl; count = refl }
+    let x = c .before .before .before .two-words .ensures (c .before .before .if1 .taken) in
+    record { before = before-append _ _ _ [] _ (_ ∷ []) _ _ _ x (c .short-word .ensures e); words = refl; count = refl }
 
 no-fields-requires : tie.Need-no-fields-requires
 no-fields-requires c κs = search needs
@@ -41,9 +41,9 @@ pub three-fields-spec : {M : Type 1} → statement M
 three-fields-spec =
     tie.close
     (tie.spec
-    two-numbers-requires
-    add-short-number
-    short-number-requires
+    two-words-requires
+    add-short-word
+    short-word-requires
     returns
     no-fields-requires
     returns-2)

@@ -11,18 +11,18 @@ use Rattle.records.proofs.two_words.Lts as lts
 use Rattle.fields.proofs.short_word.Reads as short-word-reads
 
 short-word-requires : tie.Need-short-word-requires
-short-word-requires c κs = (c .before .pre, inl refl)
+short-word-requires c κs = (c .before .pre .0, inl refl)
 
 add-short-word : tie.Need-add-short-word
 add-short-word c =
     let s = c .before .before .before in
-    let h = before-next _ _ [] _ _ (s .pre .1) (c .before .short-word .ensures (c .if1 .taken)) in
+    let h = before-next _ _ [] _ _ (s .pre .0 .1) (c .before .short-word .ensures (c .if1 .taken)) in
     omega arith
 
 short-word-requires-2 : tie.Need-short-word-requires-2
 short-word-requires-2 c κs =
     let s = c .before .before .before in
-    ((before-next _ _ [] _ _ (s .pre .1) (c .before .short-word .ensures (c .if1 .taken)), s .pre .1), inl refl)
+    ((before-next _ _ [] _ _ (s .pre .0 .1) (c .before .short-word .ensures (c .if1 .taken)), s .pre .0 .1), s .pre .1)
 
 returns : tie.Need-returns
 returns c = λ e.
