@@ -1,7 +1,7 @@
 -- One pass over a field: what is known at each byte, and what a field says by its first byte and its length. Assumes nothing.
 use mathlib.Core.Path.{_≡_, refl, sym, ap, _∙_}
 use mathlib.Core.Bool.{Bool, true, false, cond, _&&_}
-use mathlib.Core.Logic.{_⊎_, ⊎-elim, inl, inr}
+use mathlib.Core.Logic.{⊎-elim, inl, inr}
 use mathlib.Core.List.{List, [], _∷_}
 use Prim.Native.Nat.{ℕ, suc, _+_, _-_, _*_, min, _≤_, _<_}
 use native.Mathlib.Nat.{le-refl, le-trans, lt-of-not-le}
@@ -17,7 +17,7 @@ use Rattle.decimal.proofs.Bools.{and-both, never}
 use Rattle.lines.specs.Lines.{LF, COMMA}
 use Rattle.lines.specs.Records.{Field, number, dash, other, fieldOf}
 use Rattle.lines.specs.Words.{CAP, DASH, word}
-use Rattle.fields.specs.Scan.{fieldLength, fieldAt, saidOf, wordOf, Capped, digitsSaid, digitsFrom, Scanning, NumberAt, ScannedAt, FieldReadAt, FieldBounds, EndsInLF, FieldBefore}
+use Rattle.fields.specs.Scan.{fieldLength, fieldAt, saidOf, wordOf, Capped, digitsSaid, digitsFrom, Scanning, Stop, NumberAt, ScannedAt, FieldReadAt, FieldBounds, EndsInLF, FieldBefore}
 use Rattle.fields.specs.declared.Said.{Said}
 use Rattle.fields.specs.declared.Said.the-variants.{Number, Dash, Other}
 use Rattle.fields.specs.declared.Scanned.{Scanned}
@@ -42,10 +42,6 @@ field-none = refl
 
 from-here : (s : List ℕ) (i : ℕ) → i < length s → drop i s ≡ getD s i 0 ∷ drop (i + 1) s
 from-here s i h = rw add-one (drop-cons s i 0 h)
-
--- the byte behind a field is a comma or LF
-abbrev pub Stop : (byte : ℕ) → Type 0
-Stop byte = (byte ≡ COMMA) ⊎ (byte ≡ LF)
 
 -- no byte of a field is left where it stands
 field-stop : (s : List ℕ) (i stop : ℕ) → Stop stop → i < length s → getD s i 0 ≡ stop → fieldLength (drop i s) ≡ 0
@@ -291,18 +287,18 @@ no-dash [] n e g = absurd (omega arith)
 no-dash (b ∷ f) n e g = never (sym (ap isNumberSaid (rw g at e)))
 
 -- the word of what is said
-said-word : (f : Field) → word f ≡ wordOf (saidOf f)
+pub word-said : (f : Field) → wordOf (saidOf f) ≡ word f
 unfolding word
-said-word (number n) = refl
-said-word dash = refl
-said-word other = refl
+word-said (number n) = refl
+word-said dash = refl
+word-said other = refl
 
 -- a field that says this, before this byte
 field-before : (s : List ℕ) (start stop : ℕ) (said : Said) (end : ℕ) → FieldDone s start said end → end < length s → getD s end 0 ≡ stop
     → FieldBefore s start stop (wordOf said) end
 field-before s start stop said end d h e =
     record {
-      says = ap wordOf (d .0 .said) ∙ sym (said-word (fieldOf (fieldAt s start)));
+      says = ap wordOf (d .0 .said) ∙ word-said (fieldOf (fieldAt s start));
       ends = d .0 .end;
       inside = h;
       behind = e;
@@ -338,7 +334,7 @@ dash-before s start stop w h d e =
     rw (getD-take (fieldLength (drop start s)) (drop start s) 0 0 (omega (arith, one)), getD-drop)
     (ap (λ (n : ℕ). getD s n 0) (let z : start + 0 ≡ start = omega arith in z) ∙ d) in
     record {
-      says = sym (said-word (fieldOf (fieldAt s start)) ∙ ap wordOf (said-dash (fieldAt s start) long first));
+      says = sym (ap wordOf (said-dash (fieldAt s start) long first)) ∙ word-said (fieldOf (fieldAt s start));
       ends = one;
       inside = h;
       behind = e;

@@ -1,6 +1,7 @@
 -- A field as the code finds it. Laws join it to Records; nothing here adds to document 01's meaning.
 use mathlib.Core.Path.{_≡_}
 use mathlib.Core.Bool.{Bool, true, cond, _&&_}
+use mathlib.Core.Logic.{_⊎_}
 use mathlib.Core.List.{List, [], _∷_}
 use Prim.Native.Nat.{ℕ, suc, _+_, _-_, min, _≤_, _<_}
 use lib.Dec.{eqb}
@@ -56,6 +57,10 @@ pub record Scanning (sheet : List ℕ) (start value : ℕ) (all : Bool) (end : �
   pub capped : value ≤ CAP
   pub ends : end + fieldLength (drop end sheet) ≡ start + fieldLength (drop start sheet)
   pub said : digitsFrom all value (fieldAt sheet end) ≡ digitsFrom true 0 (fieldAt sheet start)
+
+-- the byte behind a field that does not end the sheet: a comma or LF
+abbrev pub Stop : (byte : ℕ) → Type 0
+Stop byte = (byte ≡ COMMA) ⊎ (byte ≡ LF)
 
 -- bytes from start to end, if digits, are a number and the whole field, and this byte stands behind it
 pub record NumberAt (sheet : List ℕ) (start end stop : ℕ) : Type 0 where

@@ -1,13 +1,11 @@
 // A field read from the sheet's bytes: what stands between two commas, or before the LF.
 ghost use mathlib.Core.Path.{_≡_};
 ghost use mathlib.Core.Bool.{true};
-ghost use mathlib.Core.Logic.{_⊎_};
 ghost use Prim.Native.Nat.{_+_, min, _≤_, _<_};
 ghost use lib.ListN.{length, drop};
 ghost use Rattle.decimal.specs.Number.{isDigit};
-ghost use Rattle.lines.specs.Lines.{LF, COMMA};
 ghost use Rattle.lines.specs.Words.{CAP};
-ghost use Rattle.fields.specs.Scan.{fieldLength, wordOf, digitsSaid, Scanning, NumberAt, ScannedAt, FieldReadAt, FieldBounds, EndsInLF, FieldBefore};
+ghost use Rattle.fields.specs.Scan.{fieldLength, wordOf, digitsSaid, Scanning, Stop, NumberAt, ScannedAt, FieldReadAt, FieldBounds, EndsInLF, FieldBefore};
 use lines::DASH;
 use lines::OTHER;
 
@@ -193,7 +191,7 @@ fn leading_digits(s: &[u8], start: usize) -> Digits
 // Whether the digits from start to end are a number and `stop` ends the field. A first byte above `0` is a digit, where a comma or LF ends the field.
 fn is_number(s: &[u8], start: usize, end: usize, stop: u8) -> bool
     requires { ⌜ (start ≤ end) × (end < length (now s)) ⌝ }
-    requires { ⌜ (stop ≡ COMMA) ⊎ (stop ≡ LF) ⌝ }
+    requires { ⌜ Stop stop ⌝ }
     ensures { λ r. ⌜ (r ≡ true → NumberAt (now (s .entry)) start end stop) ⌝ }
 {
     if s[end] != stop {
@@ -212,7 +210,7 @@ fn is_number(s: &[u8], start: usize, end: usize, stop: u8) -> bool
 // The field that starts here, if it is a short number and `stop` stands behind it.
 fn short_number(s: &[u8], start: usize, stop: u8) -> ShortRead
     requires { ⌜ (start < length (now s)) × EndsInLF (now s) ⌝ }
-    requires { ⌜ (stop ≡ COMMA) ⊎ (stop ≡ LF) ⌝ }
+    requires { ⌜ Stop stop ⌝ }
     ensures { λ r. ⌜ (r .read ≡ true → FieldBefore (now (s .entry)) start stop (r .word) (r .end)) ⌝ }
 {
     let digits = leading_digits(s, start);
@@ -227,7 +225,7 @@ fn short_number(s: &[u8], start: usize, stop: u8) -> ShortRead
 // The same, or `-`.
 pub fn short_word(s: &[u8], start: usize, stop: u8) -> ShortRead
     requires { ⌜ (start < length (now s)) × EndsInLF (now s) ⌝ }
-    requires { ⌜ (stop ≡ COMMA) ⊎ (stop ≡ LF) ⌝ }
+    requires { ⌜ Stop stop ⌝ }
     ensures { λ r. ⌜ (r .read ≡ true → FieldBefore (now (s .entry)) start stop (r .word) (r .end)) ⌝ }
 {
     let number = short_number(s, start, stop);

@@ -14,10 +14,10 @@ use lib.ListN.{length, take, drop, set, getD, replicate, length-take, length-dro
 use lib.Seq.{sets, set-out, drop-cons, drop-drop, getD-drop}
 use Rattle.decimal.proofs.Bools.{and-both, ltb-suc}
 use Rattle.lines.specs.Lines.{LF, COMMA, beforeField, fieldsOf}
-use Rattle.lines.specs.Records.{Field, number, dash, other, kindOf, kindIn, fieldOf, recordOf}
+use Rattle.lines.specs.Records.{kindOf, kindIn, fieldOf, recordOf}
 use Rattle.lines.specs.Words.{word, words, lineLength, lineAt, ReadAt}
-use Rattle.fields.specs.Scan.{fieldLength, fieldAt, saidOf, wordOf, FieldReadAt, EndsInLF}
-use Rattle.fields.proofs.Scanning.{field-one, not-last}
+use Rattle.fields.specs.Scan.{fieldLength, fieldAt, wordOf, FieldReadAt, EndsInLF}
+use Rattle.fields.proofs.Scanning.{field-one, not-last, word-said}
 use Rattle.records.specs.Reading.{commaAt, stored, fieldEnd, FieldsBefore, firstWord, otherWords, ShortFieldsAt}
 use Rattle.records.specs.declared.ShortFields.{ShortFields}
 use Rattle.lines.specs.declared.Kind.{Kind}
@@ -173,12 +173,6 @@ kind-is s start first kind h f l =
     rw (first-field s start first h f) (rw m at l)
 
 -- ---- the line, field by field
-
-word-said : (f : Field) → wordOf (saidOf f) ≡ word f
-unfolding word
-word-said (number n) = refl
-word-said dash = refl
-word-said other = refl
 
 store-set : (l : List ℕ) (k v : ℕ) → length l ≡ 8 → stored l k v ≡ set l k v
 store-set l k v h =

@@ -1,14 +1,12 @@
 // A line read from the sheet's bytes: its kind's letter, then its fields.
 ghost use mathlib.Core.Path.{_≡_};
 ghost use mathlib.Core.Bool.{true};
-ghost use mathlib.Core.Logic.{_⊎_};
 ghost use mathlib.Core.List.{_∷_, []};
 ghost use Prim.Native.Nat.{_-_, _≤_, _<_};
 ghost use lib.ListN.{length, take, drop};
-ghost use Rattle.lines.specs.Lines.{LF, COMMA};
 ghost use Rattle.lines.specs.Records.{kindOf, kindIn, recordOf};
 ghost use Rattle.lines.specs.Words.{lineAt, ReadAt};
-ghost use Rattle.fields.specs.Scan.{EndsInLF};
+ghost use Rattle.fields.specs.Scan.{EndsInLF, Stop};
 ghost use Rattle.records.specs.Reading.{commaAt, stored, usualFields, FieldsBefore, ShortFieldsAt};
 use fields::first_end;
 use fields::read_field;
@@ -121,7 +119,7 @@ struct ShortFields {
 // Two fields that are short numbers or `-`, `stop` behind the second.
 fn two_words(s: &[u8], start: usize, stop: u8) -> TwoRead
     requires { ⌜ (start < length (now s)) × EndsInLF (now s) ⌝ }
-    requires { ⌜ (stop ≡ COMMA) ⊎ (stop ≡ LF) ⌝ }
+    requires { ⌜ Stop stop ⌝ }
     ensures { λ r. ⌜ (r .read ≡ true → FieldsBefore (now (s .entry)) start stop (r .first) (r .second ∷ []) (r .end)) ⌝ }
 {
     let a = short_word(s, start, b',');

@@ -7,7 +7,7 @@ use lib.ListN.{getD}
 use borrow.Author.Needs.{needs}
 use borrow.Author.Tests.{eqb-true}
 use Rattle.decimal.proofs.Bools.{never}
-use Rattle.fields.proofs.Scanning.{Stop}
+use Rattle.fields.specs.Scan.{Stop}
 use Rattle.fields.proofs.is_number.Statement.{statement}
 use Rattle.fields.proofs.is_number.Tie as tie
 use Rattle.fields.proofs.is_number.Reads as reads
