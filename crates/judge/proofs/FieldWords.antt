@@ -100,6 +100,14 @@ early rs =
 abbrev pub tidy : List Rule → Bool
 tidy rs = allCapped rs && early rs
 
+and-false : (a : Bool) → (a && false) ≡ false
+and-false true = refl
+and-false false = refl
+
+or-true : (a : Bool) → (a || true) ≡ true
+or-true true = refl
+or-true false = refl
+
 -- the number of the first check that applies
 pub number-cons : (c : Check) (cs : List Check) → numberOf (firstOf (c ∷ cs)) ≡ cond (c .applies) (c .number) (numberOf (firstOf cs))
 unfolding firstOf
@@ -142,34 +150,28 @@ module _ (limits : Limits) (small : limits .processes < CAP) where
   unfolding word wordNumber
   field-number rule f c = go f (leb-true _ _ (and-both (leb (rule .lowest) CAP) (ltb (rule .highest) CAP) c .0)) (ltb-true _ _ (and-both (leb (rule .lowest) CAP) (ltb (rule .highest) CAP) c .1))
     where
-      within : (b : Bool) → _≡_ {A = ℕ} (cond b 7 0) (cond (b || false) 7 0)
-      within true = refl
-      within false = refl
-
-      over : (a b : Bool) → _≡_ {A = ℕ} (cond a 7 7) (cond (b || true) 7 0)
-      over true true = refl
-      over true false = refl
-      over false true = refl
-      over false false = refl
-
       go : (f : Field) → rule .lowest ≤ CAP → rule .highest < CAP
           → wordNumber (rule .lowest) (rule .highest) (rule .dashAllowed) (word f) ≡ cond (notNumber limits rule f) 6 (cond (outOfRange limits rule f) 7 0)
       go (number n) l h =
           elim (decLe n (rule .highest)) [
             | yes g ↦
                 let m : min n CAP ≡ n = omega arith in
-                simp (m, le-leb n (rule .highest) g, le-ltb (rule .highest) n g) (within (ltb n (rule .lowest)))
+                elim (decLe (rule .lowest) n) [
+                  | yes k ↦ simp (m, le-leb (rule .lowest) n k, le-leb n (rule .highest) g, le-ltb (rule .highest) n g, le-ltb n (rule .lowest) k)
+                  | no k ↦
+                      let q : n < rule .lowest = lt-of-not-le k in
+                      simp (m, lt-leb (rule .lowest) n q, lt-ltb n (rule .lowest) q, ne-eqb n DASH (λ e. omega arith), ne-eqb n OTHER (λ e. omega arith))
+                ]
             | no g ↦
                 let q : rule .highest < n = lt-of-not-le g in
-                simp (lt-leb (min n CAP) (rule .highest) (omega arith), ne-eqb (min n CAP) DASH (λ e. omega arith), ne-eqb (min n CAP) OTHER (λ e. omega arith), lt-ltb (rule .highest) n q)
-                (over (ltb (min n CAP) (rule .lowest)) (ltb n (rule .lowest)))
+                simp (lt-leb (min n CAP) (rule .highest) (omega arith), and-false, or-true, ne-eqb (min n CAP) DASH (λ e. omega arith), ne-eqb (min n CAP) OTHER (λ e. omega arith), lt-ltb (rule .highest) n q)
           ]
-      go dash l h = simp (le-ltb DASH (rule .lowest) (omega arith), lt-leb DASH (rule .highest) (omega arith)) (turn (rule .dashAllowed))
+      go dash l h = simp (lt-leb DASH (rule .highest) (omega arith), and-false) (turn (rule .dashAllowed))
         where
           turn : (d : Bool) → _≡_ {A = ℕ} (cond d 0 6) (cond (not d) 6 0)
           turn true = refl
           turn false = refl
-      go other l h = simp (le-ltb OTHER (rule .lowest) (omega arith), lt-leb OTHER (rule .highest) (omega arith))
+      go other l h = simp (lt-leb OTHER (rule .highest) (omega arith), and-false)
 
   -- ---- 6 and 7 of the fields, before what comes after them
 

@@ -1,5 +1,6 @@
 -- Laws that the crates above cite.
-pub mod Rows
+pub mod Chain
 pub mod FieldWords
 pub mod Shaped
+pub mod Methods
 pub mod LineNumber

@@ -31,19 +31,21 @@ else-zero a b h = go (eqb a 0) refl h
 
 -- ---- of the words
 
-word-fits : (rule : Rule) (d : Bool) (w : ℕ) → wordNumber (rule .lowest) (rule .highest) d w ≡ 0 → FitsBy d rule w
+pub word-fits : (rule : Rule) (d : Bool) (w : ℕ) → wordNumber (rule .lowest) (rule .highest) d w ≡ 0 → FitsBy d rule w
 unfolding wordNumber
-word-fits rule d w h = go d (ltb w (rule .lowest)) refl (leb w (rule .highest)) refl (eqb w DASH) refl (eqb w OTHER) h
+word-fits rule d w h = go d (leb (rule .lowest) w && leb w (rule .highest)) refl (eqb w DASH) refl (eqb w OTHER) h
   where
-    go : (d a : Bool) → ltb w (rule .lowest) ≡ a → (b : Bool) → leb w (rule .highest) ≡ b → (x : Bool) → eqb w DASH ≡ x → (y : Bool)
-        → _≡_ {A = ℕ} (cond a 7 (cond b 0 (cond x (cond d 0 6) (cond y 6 7)))) 0 → FitsBy d rule w
-    go d true p b q x s y h = absurd (omega arith)
-    go true false p true q x s y h = inr (ltb-false _ _ p, leb-true _ _ q)
-    go false false p true q x s y h = (ltb-false _ _ p, leb-true _ _ q)
-    go true false p false q true s y h = inl (eqb-true _ _ s)
-    go false false p false q true s y h = absurd (omega arith)
-    go d false p false q false s true h = absurd (omega arith)
-    go d false p false q false s false h = absurd (omega arith)
+    in-range : (leb (rule .lowest) w && leb w (rule .highest)) ≡ true → InRange rule w
+    in-range e = let both = and-both _ _ e in (leb-true _ _ (both .0), leb-true _ _ (both .1))
+
+    go : (d a : Bool) → (leb (rule .lowest) w && leb w (rule .highest)) ≡ a → (x : Bool) → eqb w DASH ≡ x → (y : Bool)
+        → _≡_ {A = ℕ} (cond a 0 (cond x (cond d 0 6) (cond y 6 7))) 0 → FitsBy d rule w
+    go true true p x s y h = inr (in-range p)
+    go false true p x s y h = in-range p
+    go true false p true s y h = inl (eqb-true _ _ s)
+    go false false p true s y h = absurd (omega arith)
+    go d false p false s true h = absurd (omega arith)
+    go d false p false s false h = absurd (omega arith)
 
 words-fit : (k : ℕ) (rs : List Rule) (ws : List ℕ) → wordsNumber k rs ws ≡ 0 → Fitting k rs ws
 unfolding wordsNumber
@@ -51,13 +53,6 @@ words-fit k [] ws h = tt
 words-fit k (r ∷ rs) ws h =
     let z = else-zero (wordNumber (r .lowest) (r .highest) (r .dashAllowed) (getD ws k 0)) (wordsNumber (suc k) rs ws) h in
     (word-fits r (r .dashAllowed) (getD ws k 0) (z .0), words-fit (suc k) rs ws (z .1))
-
--- a word whose rule has no `-` is of the range
-pub fitting-at : (k : ℕ) (rs : List Rule) (ws : List ℕ) → Fitting k rs ws → (i : ℕ) → i < length rs → getD rs i (exactly 0) .dashAllowed ≡ false
-    → InRange (getD rs i (exactly 0)) (getD ws (k + i) 0)
-fitting-at k [] ws f i l d = absurd (omega arith)
-fitting-at k (r ∷ rs) ws f zero l d = let z : k + 0 ≡ k = omega arith in rw z (subst (λ (b : Bool). FitsBy b r (getD ws k 0)) d (f .0))
-fitting-at k (r ∷ rs) ws f (suc i) l d = let z : k + suc i ≡ suc k + i = omega arith in rw z (fitting-at (suc k) rs ws (f .1) i (omega arith) d)
 
 module _ (limits : Limits) (kind : Kind) (count : ℕ) (ws : List ℕ) (ended : Bool) (above : ℕ) where
   pub record Shaped : Type 0 where
@@ -81,10 +76,6 @@ module _ (limits : Limits) (kind : Kind) (count : ℕ) (ws : List ℕ) (ended : 
       go false p true q false s false t h = absurd (omega arith)
       go false p true q false s true t h =
           record { few = p; finished = q; known = s; counted = eqb-true _ _ t; fits = words-fit 0 (wordRules limits kind ws) ws h }
-
-  -- at a kind and a method this is a fact for each field, under `unfolding rules methodRules`
-  pub fits-at : Shaped → (k : Kind) (m : ℕ) → kind ≡ k → getD ws 1 0 ≡ m → Fitting 0 (rules limits k (number m)) ws
-  fits-at s k m e f = subst (λ (rs : List Rule). Fitting 0 rs ws) (ap₂ (λ (k : Kind) (m : ℕ). rules limits k (number m)) e f) (s .fits)
 
 -- ---- of the record
 

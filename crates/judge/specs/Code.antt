@@ -4,17 +4,18 @@ use mathlib.Core.Path.{_≡_}
 use mathlib.Core.Logic.{_⊎_}
 use mathlib.Core.Bool.{Bool, true, false, cond, _&&_, _||_, not}
 use mathlib.Core.List.{List, [], _∷_}
-use Prim.Native.Nat.{ℕ, zero, suc, _+_, _≤_, _<_}
+use Prim.Native.Nat.{ℕ, suc, _+_, _≤_}
 use lib.Dec.{eqb, ltb, leb}
 use lib.ListN.{length, getD}
 use Rattle.lines.specs.Records.{number, letter}
 use Rattle.lines.specs.Words.{DASH, OTHER}
 use Rattle.lines.specs.declared.Kind.{Kind}
 use Rattle.lines.specs.declared.Kind.the-variants.{Process, SourceStream, OwnGood, Unknown}
+use Rattle.lines.specs.declared.LineRead.{LineRead}
 use Rattle.quantity.specs.Limits.{Limits}
-use Rattle.sheet.specs.Kinds.{Rule, rules, namedFields}
+use Rattle.sheet.specs.Kinds.{Rule, methodRules, rules, namedFields}
 use Rattle.sheet.specs.Refusals.{tooManyLines, endsOf}
-use Rattle.rules.specs.declared.Rules.{Rules}
+use Rattle.judge.specs.declared.order.Above.{Above}
 use Rattle.judge.specs.declared.refusals.Refusal.{Refusal}
 use Rattle.judge.specs.declared.refusals.Refusal.the-variants.{Accepted, TooManyBytes, TooManyLines, LacksLF, UnknownKind, WrongFieldCount, NotNumber, OutOfRange, ProcessNotNext, MissingProcess, EndsNotAllowed, NoStandardValue, SecondOfPair, OutputExceeded, EmptySheet, FigureTooLarge, SpaceTooShort}
 
@@ -48,10 +49,9 @@ orElse first next = cond (eqb first 0) next first
 -- 6 and 7 by one rule. Every range ends below DASH and OTHER, so a word of the range is a number
 unfoldable pub wordNumber : (lowest highest : ℕ) → (dashAllowed : Bool) → (word : ℕ) → ℕ
 wordNumber lowest highest dashAllowed word =
-    cond (ltb word lowest) 7
-    (cond (leb word highest) 0
+    cond (leb lowest word && leb word highest) 0
     (cond (eqb word DASH) (cond dashAllowed 0 6)
-    (cond (eqb word OTHER) 6 7)))
+    (cond (eqb word OTHER) 6 7))
 
 -- 6 and 7 from the left, by the rules of the fields from k on
 unfoldable pub wordsNumber : (k : ℕ) → List Rule → (words : List ℕ) → ℕ
@@ -59,11 +59,9 @@ wordsNumber k [] words = 0
 wordsNumber k (rule ∷ rs) words =
     orElse (wordNumber (rule .lowest) (rule .highest) (rule .dashAllowed) (getD words k 0)) (wordsNumber (suc k) rs words)
 
--- the same by a row of rules: of n fields from k on
-unfoldable pub rowNumber : Rules → (words : List ℕ) → (k n : ℕ) → ℕ
-rowNumber r words k zero = 0
-rowNumber r words k (suc n) =
-    orElse (wordNumber (getD (r .lowest) k 0) (getD (r .highest) k 0) (getD (r .dash) k false) (getD words k 0)) (rowNumber r words (suc k) n)
+-- 6 and 7 of a source stream's fields from its method on
+abbrev pub methodNumber : (words : List ℕ) → ℕ
+methodNumber words = wordsNumber 1 (Rattle.sheet.specs.Kinds._to_ 1 4 ∷ methodRules (number (getD words 1 0))) words
 
 module _ (limits : Limits) where
   -- the rules of a line, by the word of its second field for a source stream
@@ -119,10 +117,21 @@ module _ (limits : Limits) where
       (cond (second kind pair) 12
       (cond (exceeded kind output taken (getD words 2 0)) 13 0)))))
 
+  -- 4 to 13 of a line of this kind
+  abbrev pub kindNumber : Kind → (count : ℕ) → (words : List ℕ) → Above → ℕ
+  kindNumber kind count words above =
+      orElse (fieldsNumber limits kind count words)
+      (orderNumber kind words (above .lines) (above .processes) (above .output .0) (above .taken .0) (above .pair .0))
+
   -- 2 to 13
   abbrev pub lineNumber : Kind → (count : ℕ) → (words : List ℕ) → (ended : Bool) → (above processes output taken pair : ℕ) → ℕ
   lineNumber kind count words ended above processes output taken pair =
       orElse (shapeNumber limits kind count words ended above) (orderNumber kind words above processes output taken pair)
+
+  -- 2 to 13 of a line that was read, in a sheet of so many bytes
+  abbrev pub readNumber : LineRead → (size : ℕ) → Above → ℕ
+  readNumber l size above =
+      lineNumber (l .kind) (l .count) (l .words) (not (eqb (l .end) size)) (above .lines) (above .processes) (above .output .0) (above .taken .0) (above .pair .0)
 
 -- ---- the words of a line that passes rows 2 to 7: numbers of the ranges, or DASH where `-` may stand
 

@@ -1,6 +1,6 @@
 // Document 01, "Sheets sent back": the rows of its table.
 ghost use mathlib.Core.Path.{_≡_};
-ghost use Rattle.judge.specs.Code.{refusalNumber, orElse};
+ghost use Rattle.judge.specs.Code.{refusalNumber};
 
 // What is wrong with a sheet, in the order of the table, or that nothing is.
 pub enum Refusal {
@@ -46,14 +46,4 @@ pub fn refusal_number(r: Refusal) -> u64
         Refusal::FigureTooLarge => 15,
         Refusal::SpaceTooShort => 16,
     }
-}
-
-// The first of two that refuses.
-pub fn or_else(first: Refusal, next: Refusal) -> Refusal
-    ensures { λ r. ⌜ refusalNumber r ≡ orElse (refusalNumber first) (refusalNumber next) ⌝ }
-{
-    if refusal_number(first) != 0 {
-        return first;
-    }
-    next
 }

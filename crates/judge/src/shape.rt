@@ -1,34 +1,30 @@
-// Document 01, "Sheets sent back", rows 2 to 7: the line by itself.
+// Document 01, "Sheets sent back", rows 5 to 7: one step for the count of fields, one for each field. A step after a refusal keeps
+// that refusal.
 ghost use mathlib.Core.Path.{_≡_};
-ghost use mathlib.Core.Bool.{not};
-ghost use Prim.Native.Nat.{_≤_};
+ghost use mathlib.Core.Bool.{true, false, cond};
 ghost use lib.Dec.{eqb};
-ghost use Rattle.quantity.specs.Limits.{limits};
-ghost use Rattle.judge.specs.Code.{refusalNumber, wordNumber, rowNumber, fieldsNumber, shapeNumber};
+ghost use Rattle.lines.specs.Words.{DASH, OTHER};
+ghost use Rattle.judge.specs.Code.{refusalNumber, orElse, wordNumber};
 use super::refusals::Refusal;
 use super::refusals::refusal_number;
 use lines::DASH;
-use lines::Kind;
-use lines::LineRead;
 use lines::OTHER;
-use quantity::limits::LINES;
-use rules::Rules;
-use rules::rules_of;
 
-// Rows 6 and 7: a field's word by its rule.
-fn field_refusal(word: u64, lowest: u64, highest: u64, dash: bool) -> Refusal
-    ensures { λ r. ⌜ refusalNumber r ≡ wordNumber lowest highest dash word ⌝ }
+// Row 5.
+pub fn counted(count: usize, fields: usize) -> Refusal
+    ensures { λ r. ⌜ refusalNumber r ≡ cond (eqb count fields) 0 5 ⌝ }
 {
-    if word < lowest {
-        return Refusal::OutOfRange;
-    }
-    if word <= highest {
+    if count == fields {
         return Refusal::Accepted;
     }
+    Refusal::WrongFieldCount
+}
+
+// Rows 6 and 7 of a word that is not of its range, nor `-` where it may stand.
+fn outside(word: u64) -> Refusal
+    ensures { λ r. ⌜ refusalNumber r ≡ cond (eqb word DASH) 6 (cond (eqb word OTHER) 6 7) ⌝ }
+{
     if word == DASH {
-        if dash {
-            return Refusal::Accepted;
-        }
         return Refusal::NotNumber;
     }
     if word == OTHER {
@@ -37,46 +33,31 @@ fn field_refusal(word: u64, lowest: u64, highest: u64, dash: bool) -> Refusal
     Refusal::OutOfRange
 }
 
-// Rows 6 and 7 field by field from the left.
-fn words_refusal(words: &[u64; 8], rules: Rules) -> Refusal
-    requires { ⌜ rules .count ≤ 8 ⌝ }
-    ensures { λ r. ⌜ refusalNumber r ≡ rowNumber rules (now (words .entry)) 0 (rules .count) ⌝ }
+// Rows 6 and 7 of one field: a number of a range.
+pub fn field(before: Refusal, word: u64, lowest: u64, highest: u64) -> Refusal
+    ensures { λ r. ⌜ refusalNumber r ≡ orElse (refusalNumber before) (wordNumber lowest highest false word) ⌝ }
 {
-    let mut k: usize = 0;
-    while k < rules.count {
-        let r = field_refusal(words[k], rules.lowest[k], rules.highest[k], rules.dash[k]);
-        if refusal_number(r) != 0 {
-            return r;
-        }
-        k += 1;
+    if refusal_number(before) != 0 {
+        return before;
     }
-    Refusal::Accepted
+    if (lowest <= word) & (word <= highest) {
+        return Refusal::Accepted;
+    }
+    outside(word)
 }
 
-// Rows 4 to 7.
-fn fields_refusal(kind: Kind, count: usize, words: &[u64; 8]) -> Refusal
-    ensures { λ r. ⌜ refusalNumber r ≡ fieldsNumber limits kind count (now (words .entry)) ⌝ }
+// Rows 6 and 7 of one field: a number of a range, or `-`.
+pub fn field_or_dash(before: Refusal, word: u64, lowest: u64, highest: u64) -> Refusal
+    ensures { λ r. ⌜ refusalNumber r ≡ orElse (refusalNumber before) (wordNumber lowest highest true word) ⌝ }
 {
-    let rules = rules_of(kind, words[1]);
-    if rules.count == 0 {
-        return Refusal::UnknownKind;
+    if refusal_number(before) != 0 {
+        return before;
     }
-    if count != rules.count {
-        return Refusal::WrongFieldCount;
+    if (lowest <= word) & (word <= highest) {
+        return Refusal::Accepted;
     }
-    words_refusal(words, rules)
-}
-
-// Rows 2 to 7 of a line of a sheet of `size` bytes, with `above` lines above it.
-pub fn shape_refusal(l: LineRead, above: usize, size: usize) -> Refusal
-    ensures { λ r. ⌜ refusalNumber r ≡ shapeNumber limits (l .kind) (l .count) (l .words) (not (eqb (l .end) size)) above ⌝ }
-{
-    if LINES <= above {
-        return Refusal::TooManyLines;
+    if word == DASH {
+        return Refusal::Accepted;
     }
-    if l.end == size {
-        return Refusal::LacksLF;
-    }
-    let kind = l.kind;
-    fields_refusal(kind, l.count, &l.words)
+    outside(word)
 }

@@ -5,7 +5,7 @@ use mathlib.Core.Bool.{Bool, true, false, cond, not}
 use mathlib.Core.List.{List, [], _∷_, _++_, map}
 use Prim.Native.Nat.{ℕ, suc, _+_, _*_, _≤_, _<_}
 use native.Mathlib.Omega.{arith}
-use borrow.Author.Tests.{ltb-true, eq-eqb, ne-eqb}
+use borrow.Author.Tests.{ltb-true, lt-ltb, eq-eqb, ne-eqb}
 use lib.Dec.{eqb}
 use lib.ListN.{length, getD, drop, replicate}
 use Rattle.lines.specs.Lines.{linesOf}
@@ -27,7 +27,7 @@ use Rattle.sheet.proofs.Held.{GoodAsked}
 use Rattle.judge.proofs.LineNumber.{given, line-accepted, line-refused, read-number}
 use Rattle.entries.specs.Entries.{entry}
 use Rattle.entries.specs.Read.{recordRead, Shaped}
-use Rattle.works.specs.Works.{worksAtStart, worksAfter, kilosAfter}
+use Rattle.works.specs.Works.{worksAtStart, worksAfter, kilosAfter, ofProcess, ofPair}
 use Rattle.reckoner.specs.Gathered.{NoKilos}
 use Rattle.works.specs.declared.Works.{Works}
 use Rattle.reckoner.proofs.HeldLedger.{held-start}
@@ -78,13 +78,13 @@ reading-start sheet kilos e = record {
 module _ (sheet : List ℕ) (at : ℕ) (w : Works) (kilos : List ℕ) (rd : Reading sheet at w kilos) (more : at < length sheet)
     (l : LineRead) (read : ReadAt sheet at l) where
   abbrev output : ℕ
-  output = getD (w .outputs) (getD (l .words) 0 0) 0
+  output = ofProcess (w .outputs) (getD (l .words) 0 0)
 
   abbrev taken : ℕ
-  taken = getD (w .taken) (getD (l .words) 0 0) 0
+  taken = ofProcess (w .taken) (getD (l .words) 0 0)
 
   abbrev pair : ℕ
-  pair = getD kilos (getD (l .words) 0 0 * SIZE + getD (l .words) 1 0) 0
+  pair = ofPair kilos (getD (l .words) 0 0) (getD (l .words) 1 0)
 
   -- what line_refusal gives
   abbrev pub lineGiven : ℕ
@@ -95,7 +95,10 @@ module _ (sheet : List ℕ) (at : ℕ) (w : Works) (kilos : List ℕ) (rd : Read
 
   -- what the code holds of a G line's processes
   goods-held : GoodAsked (rd .above) (recordOf (lineAt sheet at) .kind) (getD (words (recordOf (lineAt sheet at) .said)) 0 0) (getD (words (recordOf (lineAt sheet at) .said)) 1 0) (w .count) output taken pair
-  goods-held = rw (← read .words) (good-held (rd .above) w kilos (rd .standing) (recordOf (lineAt sheet at) .kind) (getD (l .words) 0 0) (getD (l .words) 1 0))
+  goods-held = rw (← read .words) (λ e low rising known.
+      let most = rd .standing .held .most in
+      simp (lt-ltb (getD (l .words) 0 0) SIZE (omega arith), lt-ltb (getD (l .words) 1 0) SIZE (omega arith))
+      (good-held (rd .above) w kilos (rd .standing) (recordOf (lineAt sheet at) .kind) (getD (l .words) 0 0) (getD (l .words) 1 0) e low rising known))
 
   pub accepted-here : lineGiven ≡ 0 → firstOf (lineChecks limits (rd .above) (lineAt sheet at)) ≡ accepted
   accepted-here z =

@@ -1,3 +1,2 @@
 -- Laws that the crates above cite.
-pub mod Judged
 pub mod Noted

@@ -2,7 +2,7 @@
 use mathlib.Core.Bool.{cond}
 use mathlib.Core.List.{List}
 use Prim.Native.Nat.{ℕ, _+_, _*_, _≤_}
-use lib.Dec.{eqb}
+use lib.Dec.{eqb, ltb}
 use lib.ListN.{getD, replicate}
 use Rattle.quantity.specs.Limits.{limits}
 use Rattle.lines.specs.Records.{letter}
@@ -11,12 +11,30 @@ use Rattle.lines.specs.declared.LineRead.{LineRead}
 use Rattle.goods.specs.Settling.{SIZE}
 use Rattle.ledger.specs.Ledger.{added, booked, start}
 use Rattle.ledger.specs.declared.Ledger.{Ledger}
+use Rattle.judge.specs.declared.order.Above.{Above}
 use Rattle.entries.specs.Entries.{entry}
 use Rattle.entries.specs.Read.{recordRead}
 use Rattle.works.specs.declared.Works.{Works}
 
 abbrev pub worksOf : (lines count : ℕ) → (outputs taken : List ℕ) → Ledger → Works
 worksOf lines count outputs taken ledger = record { lines = lines; count = count; outputs = outputs; taken = taken; ledger = ledger }
+
+-- the kilograms of a process and of a pair of processes, 0 where there is no such place
+abbrev pub ofProcess : (kilos : List ℕ) → (n : ℕ) → ℕ
+ofProcess kilos n = cond (ltb n SIZE) (getD kilos n 0) 0
+
+abbrev pub ofPair : (kilos : List ℕ) → (f t : ℕ) → ℕ
+ofPair kilos f t = cond (ltb f SIZE) (cond (ltb t SIZE) (getD kilos (f * SIZE + t) 0) 0) 0
+
+-- what the lines above say of a line of these words
+abbrev pub aboveAt : (lines count : ℕ) → (outputs taken kilos words : List ℕ) → Above
+aboveAt lines count outputs taken kilos words = record {
+  lines = lines;
+  processes = count;
+  output = record { 0 = ofProcess outputs (getD words 0 0) };
+  taken = record { 0 = ofProcess taken (getD words 0 0) };
+  pair = record { 0 = ofPair kilos (getD words 0 0) (getD words 1 0) };
+}
 
 -- a P line: one process more, and its output
 abbrev pub outputNoted : List ℕ → LineRead → List ℕ

@@ -1,33 +1,24 @@
 // Document 01, "Sheets sent back": a line that was read, judged by itself and under the lines above it.
 ghost use mathlib.Core.Path.{_≡_};
-ghost use mathlib.Core.Bool.{true, false, not};
-ghost use Prim.Native.Nat.{ℕ, _+_, _*_, _≤_, _<_};
-ghost use lib.Dec.{eqb};
-ghost use lib.ListN.{getD};
-ghost use Rattle.goods.specs.Settling.{SIZE};
 ghost use Rattle.lines.specs.Records.{letter};
 ghost use Rattle.quantity.specs.Limits.{limits};
-ghost use Rattle.keeping.specs.Kept.{Kept};
-ghost use Rattle.judge.specs.Code.{refusalNumber, orderNumber, lineNumber};
+ghost use Rattle.judge.specs.Code.{refusalNumber, kindNumber, readNumber};
+ghost use Rattle.works.specs.Works.{ofProcess, ofPair, aboveAt};
 use goods::PAIRS;
 use goods::SIZE;
-use judge::order::order_refusal;
+use judge::kinds::bought_precursor;
+use judge::kinds::heat;
+use judge::kinds::own_good;
+use judge::kinds::power;
+use judge::kinds::process;
+use judge::kinds::source_stream;
+use judge::kinds::waste_gas;
+use judge::order::Above;
 use judge::refusals::Refusal;
-use judge::refusals::refusal_number;
-use judge::shape::shape_refusal;
-use keeping::bought_precursor;
-use keeping::heat;
-use keeping::output_left;
-use keeping::own_good;
-use keeping::power;
-use keeping::process;
-use keeping::source_stream;
-use keeping::waste_gas;
 use lines::Kind;
 use lines::LineRead;
 use quantity::Kilos;
 use quantity::limits::LINES;
-use quantity::limits::PROCESSES;
 
 // The letter of a kind of line, 0 for none.
 pub fn letter_of(kind: Kind) -> u8
@@ -45,65 +36,54 @@ pub fn letter_of(kind: Kind) -> u8
     }
 }
 
-// Rows 8 to 13 of a G line, whose processes have places.
-fn good_refusal(
+// The kilograms of a process, 0 where it has no place.
+fn of_process(kilos: &[u64; SIZE], n: u64) -> Kilos
+    ensures { λ r. ⌜ r .0 ≡ ofProcess (now (kilos .entry)) n ⌝ }
+{
+    if n < SIZE as u64 {
+        return Kilos(kilos[n as usize]);
+    }
+    Kilos(0)
+}
+
+// The kilograms of a pair of processes, 0 where it has no place.
+fn of_pair(kilos: &[u64; PAIRS], from: u64, to: u64) -> Kilos
+    ensures { λ r. ⌜ r .0 ≡ ofPair (now (kilos .entry)) from to ⌝ }
+{
+    if from < SIZE as u64 {
+        if to < SIZE as u64 {
+            return Kilos(kilos[from as usize * SIZE + to as usize]);
+        }
+    }
+    Kilos(0)
+}
+
+// Rows 5 to 13 of a G line.
+fn good(
     lines: usize,
-    count: usize,
-    outputs: &[u64; SIZE],
-    taken: &[u64; SIZE],
-    kilos: &[u64; PAIRS],
-    l: LineRead,
-) -> Refusal
-    requires { ⌜ (getD (l .words) 0 0 < SIZE) × (getD (l .words) 1 0 < SIZE) ⌝ }
-    ensures { λ r. ⌜ refusalNumber r ≡ orderNumber limits (l .kind) (l .words) lines count (getD (now (outputs .entry)) (getD (l .words) 0 0) 0) (getD (now (taken .entry)) (getD (l .words) 0 0) 0) (getD (now (kilos .entry)) (getD (l .words) 0 0 * SIZE + getD (l .words) 1 0) 0) ⌝ }
-{
-    let words = l.words;
-    let from = words[0] as usize;
-    let to = words[1] as usize;
-    let output = Kilos(outputs[from]);
-    let before = Kilos(taken[from]);
-    let pair = Kilos(kilos[from * SIZE + to]);
-    order_refusal(l, lines, count, output, before, pair)
-}
-
-// Rows 12 and 13 of a G line, whose processes have places.
-fn good_left(
-    outputs: &[u64; SIZE],
-    taken: &[u64; SIZE],
-    kilos: &[u64; PAIRS],
-    words: &[u64; 8],
-) -> bool
-    requires { ⌜ (getD (now words) 0 0 < SIZE) × (getD (now words) 1 0 < SIZE) ⌝ }
-    ensures { λ r. ⌜ (r ≡ true → (getD (now (kilos .entry)) (getD (now (words .entry)) 0 0 * SIZE + getD (now (words .entry)) 1 0) 0 ≡ 0) × (getD (now (taken .entry)) (getD (now (words .entry)) 0 0) 0 + getD (now (words .entry)) 2 0 ≤ getD (now (outputs .entry)) (getD (now (words .entry)) 0 0) 0)) ⌝ }
-{
-    let from = words[0] as usize;
-    let to = words[1] as usize;
-    let output = Kilos(outputs[from]);
-    let before = Kilos(taken[from]);
-    let pair = Kilos(kilos[from * SIZE + to]);
-    output_left(Kilos(words[2]), output, before, pair)
-}
-
-// Whether rows 4 to 13 do not apply to a G line.
-fn good_keeps(
     count: usize,
     outputs: &[u64; SIZE],
     taken: &[u64; SIZE],
     kilos: &[u64; PAIRS],
     fields: usize,
     words: &[u64; 8],
-) -> bool
-    requires { ⌜ count ≤ limits .processes ⌝ }
-    ensures { λ r. ⌜ (r ≡ true → (above : ℕ) → Kept limits Kind.OwnGood fields (now (words .entry)) above count (getD (now (outputs .entry)) (getD (now (words .entry)) 0 0) 0) (getD (now (taken .entry)) (getD (now (words .entry)) 0 0) 0) (getD (now (kilos .entry)) (getD (now (words .entry)) 0 0 * SIZE + getD (now (words .entry)) 1 0) 0)) ⌝ }
+) -> Refusal
+    ensures { λ r. ⌜ refusalNumber r ≡ kindNumber limits Kind.OwnGood fields (now (words .entry)) (aboveAt lines count (now (outputs .entry)) (now (taken .entry)) (now (kilos .entry)) (now (words .entry))) ⌝ }
 {
-    if own_good(fields, words, count) {
-        return good_left(outputs, taken, kilos, words);
-    }
-    false
+    let from = words[0];
+    let to = words[1];
+    let above = Above {
+        lines,
+        processes: count,
+        output: of_process(outputs, from),
+        taken: of_process(taken, from),
+        pair: of_pair(kilos, from, to),
+    };
+    own_good(fields, words, above)
 }
 
-// Whether rows 4 to 13 do not apply to a line of this kind.
-fn kind_keeps(
+// Rows 4 to 13 of a line of this kind.
+fn kind_refusal(
     lines: usize,
     count: usize,
     outputs: &[u64; SIZE],
@@ -112,69 +92,26 @@ fn kind_keeps(
     kind: Kind,
     fields: usize,
     words: &[u64; 8],
-) -> bool
-    requires { ⌜ (lines < limits .lines) × (count ≤ limits .processes) ⌝ }
-    ensures { λ r. ⌜ (r ≡ true → Kept limits kind fields (now (words .entry)) lines count (getD (now (outputs .entry)) (getD (now (words .entry)) 0 0) 0) (getD (now (taken .entry)) (getD (now (words .entry)) 0 0) 0) (getD (now (kilos .entry)) (getD (now (words .entry)) 0 0 * SIZE + getD (now (words .entry)) 1 0) 0)) ⌝ }
-{
-    match kind {
-        Kind::Process => process(fields, words, lines, count),
-        Kind::SourceStream => source_stream(fields, words, count),
-        Kind::Heat => heat(fields, words, count),
-        Kind::WasteGas => waste_gas(fields, words, count),
-        Kind::Power => power(fields, words, count),
-        Kind::BoughtPrecursor => bought_precursor(fields, words, count),
-        Kind::OwnGood => good_keeps(count, outputs, taken, kilos, fields, words),
-        Kind::Unknown => false,
-    }
-}
-
-// Rows 2 and 3 do not apply, and there are no more P lines than processes have numbers.
-fn in_place(lines: usize, count: usize, end: usize, size: usize) -> bool
-    ensures { λ r. ⌜ (r ≡ true → (lines < limits .lines) × ((count ≤ limits .processes) × (eqb end size ≡ false))) ⌝ }
-{
-    (lines < LINES) & (count <= PROCESSES) & (end != size)
-}
-
-// Whether rows 2 to 13 do not apply to a line, by one look at its kind. False tells nothing: the line is then judged row by row.
-fn keeps(
-    lines: usize,
-    count: usize,
-    outputs: &[u64; SIZE],
-    taken: &[u64; SIZE],
-    kilos: &[u64; PAIRS],
-    l: LineRead,
-    size: usize,
-) -> bool
-    ensures { λ r. ⌜ (r ≡ true → lineNumber limits (l .kind) (l .count) (l .words) (not (eqb (l .end) size)) lines count (getD (now (outputs .entry)) (getD (l .words) 0 0) 0) (getD (now (taken .entry)) (getD (l .words) 0 0) 0) (getD (now (kilos .entry)) (getD (l .words) 0 0 * SIZE + getD (l .words) 1 0) 0) ≡ 0) ⌝ }
-{
-    if in_place(lines, count, l.end, size) {
-        let kind = l.kind;
-        return kind_keeps(lines, count, outputs, taken, kilos, kind, l.count, &l.words);
-    }
-    false
-}
-
-// Rows 2 to 13 of a line, row by row.
-fn row_by_row(
-    lines: usize,
-    count: usize,
-    outputs: &[u64; SIZE],
-    taken: &[u64; SIZE],
-    kilos: &[u64; PAIRS],
-    l: LineRead,
-    size: usize,
 ) -> Refusal
-    ensures { λ r. ⌜ refusalNumber r ≡ lineNumber limits (l .kind) (l .count) (l .words) (not (eqb (l .end) size)) lines count (getD (now (outputs .entry)) (getD (l .words) 0 0) 0) (getD (now (taken .entry)) (getD (l .words) 0 0) 0) (getD (now (kilos .entry)) (getD (l .words) 0 0 * SIZE + getD (l .words) 1 0) 0) ⌝ }
+    ensures { λ r. ⌜ refusalNumber r ≡ kindNumber limits kind fields (now (words .entry)) (aboveAt lines count (now (outputs .entry)) (now (taken .entry)) (now (kilos .entry)) (now (words .entry))) ⌝ }
 {
-    let shape = shape_refusal(l, lines, size);
-    if refusal_number(shape) != 0 {
-        return shape;
+    let above = Above {
+        lines,
+        processes: count,
+        output: Kilos(0),
+        taken: Kilos(0),
+        pair: Kilos(0),
+    };
+    match kind {
+        Kind::Process => process(fields, words, above),
+        Kind::SourceStream => source_stream(fields, words, above),
+        Kind::Heat => heat(fields, words, above),
+        Kind::WasteGas => waste_gas(fields, words, above),
+        Kind::Power => power(fields, words, above),
+        Kind::BoughtPrecursor => bought_precursor(fields, words, above),
+        Kind::OwnGood => good(lines, count, outputs, taken, kilos, fields, words),
+        Kind::Unknown => Refusal::UnknownKind,
     }
-    let kind = l.kind;
-    if letter_of(kind) == b'G' {
-        return good_refusal(lines, count, outputs, taken, kilos, l);
-    }
-    order_refusal(l, lines, count, Kilos(0), Kilos(0), Kilos(0))
 }
 
 // Rows 2 to 13 of a line in a sheet of `size` bytes. Of the lines above it `count` are P lines; `outputs`, `taken` and `kilos` are what those
@@ -188,10 +125,14 @@ pub fn line_refusal(
     l: LineRead,
     size: usize,
 ) -> Refusal
-    ensures { λ r. ⌜ refusalNumber r ≡ lineNumber limits (l .kind) (l .count) (l .words) (not (eqb (l .end) size)) lines count (getD (now (outputs .entry)) (getD (l .words) 0 0) 0) (getD (now (taken .entry)) (getD (l .words) 0 0) 0) (getD (now (kilos .entry)) (getD (l .words) 0 0 * SIZE + getD (l .words) 1 0) 0) ⌝ }
+    ensures { λ r. ⌜ refusalNumber r ≡ readNumber limits l size (aboveAt lines count (now (outputs .entry)) (now (taken .entry)) (now (kilos .entry)) (l .words)) ⌝ }
 {
-    if keeps(lines, count, outputs, taken, kilos, l, size) {
-        return Refusal::Accepted;
+    if LINES <= lines {
+        return Refusal::TooManyLines;
     }
-    row_by_row(lines, count, outputs, taken, kilos, l, size)
+    if l.end == size {
+        return Refusal::LacksLF;
+    }
+    let kind = l.kind;
+    kind_refusal(lines, count, outputs, taken, kilos, kind, l.count, &l.words)
 }

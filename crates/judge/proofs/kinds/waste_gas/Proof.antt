@@ -1,0 +1,25 @@
+-- `waste_gas` meets its contract. Assumes nothing.
+use mathlib.Core.Path.{refl}
+use borrow.Author.Needs.{needs}
+use Rattle.lines.specs.declared.Kind.the-variants.{WasteGas}
+use Rattle.quantity.specs.Limits.{limits}
+use Rattle.sheet.specs.Kinds.{rules}
+use Rattle.judge.specs.Code.{orderNumber}
+use Rattle.judge.proofs.Chain.{none, then, kind-number}
+use Rattle.judge.proofs.kinds.waste_gas.Statement.{statement}
+use Rattle.judge.proofs.kinds.waste_gas.Tie as tie
+
+returns : tie.Need-returns
+unfolding rules orderNumber
+returns c =
+    let f3 = c .before in
+    let f2 = f3 .before .before in
+    let f1 = f2 .before .before in
+    let n = f1 .before .before in
+    let s = n .before .args in
+    kind-number limits WasteGas (s .count) (s .words .now) (s .above) refl (n .counted .ensures)
+    (then (f1 .field .ensures) (then (f2 .field2 .ensures) (then (f3 .field3 .ensures) none)))
+    (c .ends .ensures)
+
+pub waste-gas-spec : {M : Type 1} → statement M
+waste-gas-spec = tie.close (tie.spec (λ c κs. search needs) (λ c. search needs) (λ c κs. search needs) (λ c. search needs) (λ c κs. search needs) (λ c. search needs) (λ c κs. search needs) (λ c κs. search needs) returns)

@@ -1,2 +1,0 @@
--- What a line keeps.
-pub mod Kept

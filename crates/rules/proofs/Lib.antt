@@ -1,2 +1,0 @@
--- Laws that the crates above cite.
-pub mod Row

@@ -1,2 +1,0 @@
--- The table of kinds as the code holds it.
-pub mod Row
