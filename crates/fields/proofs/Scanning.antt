@@ -1,11 +1,11 @@
 -- One pass over a field: what is known at each byte, and what a field says by its first byte and its length. Assumes nothing.
 use mathlib.Core.Path.{_≡_, refl, sym, ap, _∙_}
 use mathlib.Core.Bool.{Bool, true, false, cond, _&&_}
-use mathlib.Core.Logic.{⊎-elim, inl, inr}
+use mathlib.Core.Logic.{_⊎_, ⊎-elim, inl, inr}
 use mathlib.Core.List.{List, [], _∷_}
 use Prim.Native.Nat.{ℕ, suc, _+_, _-_, _*_, min, _≤_, _<_}
 use native.Mathlib.Nat.{le-refl, le-trans, lt-of-not-le}
-use native.Mathlib.Decide.{decLe, ℕ-discrete}
+use native.Mathlib.Decide.{decLe}
 use native.Mathlib.Numerals.{add-one}
 use native.Mathlib.Omega.{arith}
 use borrow.Author.Tests.{eq-eqb, ne-eqb, leb-true}
@@ -13,11 +13,11 @@ use lib.Dec.{leb}
 use lib.ListN.{length, take, drop, getD, length-take, length-drop}
 use lib.Seq.{drop-cons, drop-length, getD-take, getD-drop}
 use Rattle.decimal.specs.Number.{isDigit, allDigits, isNumber, valueFrom, value}
-use Rattle.decimal.proofs.Bools.{and-both, never}
+use Rattle.decimal.proofs.Bools.{and-both}
 use Rattle.lines.specs.Lines.{LF, COMMA}
 use Rattle.lines.specs.Records.{Field, number, dash, other, fieldOf}
-use Rattle.lines.specs.Words.{CAP, DASH, word}
-use Rattle.fields.specs.Scan.{fieldLength, fieldAt, saidOf, wordOf, Capped, digitsSaid, digitsFrom, Scanning, Stop, NumberAt, ScannedAt, FieldReadAt, FieldBounds, EndsInLF, FieldBefore}
+use Rattle.lines.specs.Words.{CAP, word}
+use Rattle.fields.specs.Scan.{fieldLength, fieldAt, saidOf, wordOf, Capped, digitsSaid, digitsFrom, Scanning, ScannedAt, FieldReadAt, FieldBounds, EndsInLF}
 use Rattle.fields.specs.declared.Said.{Said}
 use Rattle.fields.specs.declared.Said.the-variants.{Number, Dash, Other}
 use Rattle.fields.specs.declared.Scanned.{Scanned}
@@ -43,21 +43,30 @@ field-none = refl
 from-here : (s : List ℕ) (i : ℕ) → i < length s → drop i s ≡ getD s i 0 ∷ drop (i + 1) s
 from-here s i h = rw add-one (drop-cons s i 0 h)
 
+-- a comma or LF
+abbrev pub Stop : (byte : ℕ) → Type 0
+Stop byte = (byte ≡ COMMA) ⊎ (byte ≡ LF)
+
 -- no byte of a field is left where it stands
-field-stop : (s : List ℕ) (i stop : ℕ) → Stop stop → i < length s → getD s i 0 ≡ stop → fieldLength (drop i s) ≡ 0
-field-stop s i stop w h e =
+pub field-stop : (s : List ℕ) (i : ℕ) → i < length s → Stop (getD s i 0) → fieldLength (drop i s) ≡ 0
+field-stop s i h w =
     ap fieldLength (from-here s i h)
-    ∙ ⊎-elim (λ c. field-comma (getD s i 0) (drop (i + 1) s) (e ∙ c)) (λ c. field-LF (getD s i 0) (drop (i + 1) s) (e ∙ c)) w
+    ∙ ⊎-elim (λ c. field-comma (getD s i 0) (drop (i + 1) s) c) (λ c. field-LF (getD s i 0) (drop (i + 1) s) c) w
+
+-- a byte that is neither is one of the field
+module _ (s : List ℕ) (i : ℕ) (h : i < length s) (p : getD s i 0 ≡ LF → ⊥) (q : getD s i 0 ≡ COMMA → ⊥) where
+  pub longer : fieldLength (drop i s) ≡ suc (fieldLength (drop (i + 1) s))
+  longer = ap fieldLength (from-here s i h) ∙ field-past (getD s i 0) (drop (i + 1) s) p q
+
+  pub field-left : fieldAt s i ≡ getD s i 0 ∷ fieldAt s (i + 1)
+  field-left = rw (longer, from-here s i h)
 
 -- a field of one byte
-pub field-one : (s : List ℕ) (start stop : ℕ) → Stop stop → start + 1 < length s → getD s (start + 1) 0 ≡ stop → COMMA < getD s start 0
+pub field-one : (s : List ℕ) (start : ℕ) → start + 1 < length s → Stop (getD s (start + 1) 0) → COMMA < getD s start 0
     → start + 1 ≡ start + fieldLength (drop start s)
-field-one s start stop w h e l =
-    let b : ℕ = getD s start 0 in
-    let first = from-here s start (omega arith) in
-    let one = ap fieldLength first ∙ field-past b (drop (start + 1) s) (λ f. omega arith) (λ f. omega arith) in
-    let none = field-stop s (start + 1) stop w h e in
-    omega (arith, one, none)
+field-one s start h w l =
+    let more = longer s start (omega arith) (λ e. omega arith) (λ e. omega arith) in
+    omega (arith, more, field-stop s (start + 1) h w)
 
 -- a byte that is no LF is not the last of a sheet that ends in LF
 pub not-last : (s : List ℕ) (i : ℕ) → EndsInLF s → i < length s → (getD s i 0 ≡ LF → ⊥) → i + 1 < length s
@@ -73,7 +82,7 @@ pub digit-range : (b : ℕ) → isDigit b ≡ true → (48 ≤ b) × (b ≤ 57)
 digit-range b h = let q = and-both (leb 48 b) (leb b 57) h in (leb-true 48 b (q .0), leb-true b 57 (q .1))
 
 -- digits only make a value larger
-grows : (n : ℕ) (bs : List ℕ) → n ≤ valueFrom n bs
+pub grows : (n : ℕ) (bs : List ℕ) → n ≤ valueFrom n bs
 unfolding valueFrom
 grows n [] = le-refl n
 grows n (b ∷ bs) = le-trans (let h : n ≤ n * 10 + (b - 48) = omega arith in h) (grows (n * 10 + (b - 48)) bs)
@@ -96,7 +105,7 @@ unfolding digitsFrom allDigits
 other-next true n b bs h = rw h
 other-next false n b bs h = refl
 
-digits-none : (all : Bool) (n : ℕ) → n ≤ CAP → digitsSaid all n ≡ digitsFrom all n []
+pub digits-none : (all : Bool) (n : ℕ) → n ≤ CAP → digitsSaid all n ≡ digitsFrom all n []
 unfolding digitsFrom allDigits valueFrom
 digits-none true n h = ap Number (let e : n ≡ min n CAP = omega arith in e)
 digits-none false n h = refl
@@ -129,29 +138,17 @@ module _ (s : List ℕ) (start value : ℕ) (all : Bool) (end : ℕ) (k : Scanni
     abbrev b : ℕ
     b = getD s end 0
 
-    abbrev rest : List ℕ
-    rest = drop (end + 1) s
-
-    left : drop end s ≡ b ∷ rest
-    left = from-here s end h
-
-    scanned-stop : (stop : ℕ) → Stop stop → b ≡ stop → ScannedAt s start (stopped value all end)
-    scanned-stop stop w e = scanned (field-stop s end stop w h e)
+    scanned-stop : Stop b → ScannedAt s start (stopped value all end)
+    scanned-stop w = scanned (field-stop s end h w)
 
     pub scanned-LF : b ≡ LF → ScannedAt s start (stopped value all end)
-    scanned-LF e = scanned-stop LF (inr refl) e
+    scanned-LF e = scanned-stop (inr e)
 
     pub scanned-comma : b ≡ COMMA → ScannedAt s start (stopped value all end)
-    scanned-comma e = scanned-stop COMMA (inl refl) e
+    scanned-comma e = scanned-stop (inl e)
 
     -- one more byte of the field
     module _ (p : b ≡ LF → ⊥) (q : b ≡ COMMA → ⊥) where
-      longer : fieldLength (drop end s) ≡ suc (fieldLength rest)
-      longer = ap fieldLength left ∙ field-past b rest p q
-
-      field-left : fieldAt s end ≡ b ∷ fieldAt s (end + 1)
-      field-left = rw (longer, left)
-
       further : (n : ℕ) (a : Bool) → n ≤ CAP → digitsFrom a n (fieldAt s (end + 1)) ≡ digitsFrom all value (b ∷ fieldAt s (end + 1))
           → Scanning s start n a (end + 1)
       further n a c e =
@@ -159,8 +156,8 @@ module _ (s : List ℕ) (start value : ℕ) (all : Bool) (end : ℕ) (k : Scanni
             least = omega (arith, k .least);
             inside = omega arith;
             capped = c;
-            ends = omega (arith, longer, k .ends);
-            said = e ∙ ap (digitsFrom all value) (sym field-left) ∙ k .said;
+            ends = omega (arith, longer s end h p q, k .ends);
+            said = e ∙ ap (digitsFrom all value) (sym (field-left s end h p q)) ∙ k .said;
           }
 
       pub other-scanned : isDigit b ≡ false → Scanning s start value false (end + 1)
@@ -188,7 +185,7 @@ said-dash [] h e = absurd (omega arith)
 said-dash (b ∷ []) h e = ap (λ (x : ℕ). saidOf (fieldOf (x ∷ []))) e
 said-dash (b ∷ c ∷ f) h e = absurd (omega arith)
 
-said-one : (f : List ℕ) → length f ≡ 1 → (getD f 0 0 ≡ 45 → ⊥) → saidOf (fieldOf f) ≡ digits f
+pub said-one : (f : List ℕ) → length f ≡ 1 → (getD f 0 0 ≡ 45 → ⊥) → saidOf (fieldOf f) ≡ digits f
 unfolding fieldOf isNumber digitsFrom allDigits
 said-one [] h n = absurd (omega arith)
 said-one (b ∷ []) h n = simp (ne-eqb b 45 n) (go (isDigit b))
@@ -204,7 +201,7 @@ said-zero [] h e = absurd (omega arith)
 said-zero (b ∷ []) h e = absurd (omega arith)
 said-zero (b ∷ c ∷ f) h e = simp (eq-eqb b 48 e)
 
-said-many : (f : List ℕ) → 1 < length f → (getD f 0 0 ≡ 48 → ⊥) → saidOf (fieldOf f) ≡ digits f
+pub said-many : (f : List ℕ) → 1 < length f → (getD f 0 0 ≡ 48 → ⊥) → saidOf (fieldOf f) ≡ digits f
 unfolding fieldOf isNumber digitsFrom
 said-many [] h n = absurd (omega arith)
 said-many (b ∷ []) h n = absurd (omega arith)
@@ -273,69 +270,9 @@ module _ (s : List ℕ) (start : ℕ) (f : Scanned) (k : ScannedAt s start f) wh
     pub done-many : (getD s start 0 ≡ 48 → ⊥) → (said : Said) → said ≡ digitsSaid (f .all) (f .value) → FieldDone s start said (f .end)
     done-many n said e = done said (e ∙ k .said ∙ sym (said-many (fieldAt s start) several (λ q. n (sym (first p) ∙ q))))
 
--- ---- a short number
-
-abbrev isNumberSaid : Said → Bool
-isNumberSaid (Number n) = true
-isNumberSaid Dash = false
-isNumberSaid Other = false
-
--- a field of digits does not begin with `-`
-no-dash : (f : List ℕ) (n : ℕ) → Number n ≡ digits f → getD f 0 0 ≡ 45 → ⊥
-unfolding digitsFrom allDigits
-no-dash [] n e g = absurd (omega arith)
-no-dash (b ∷ f) n e g = never (sym (ap isNumberSaid (rw g at e)))
-
 -- the word of what is said
 pub word-said : (f : Field) → wordOf (saidOf f) ≡ word f
 unfolding word
 word-said (number n) = refl
 word-said dash = refl
 word-said other = refl
-
--- a field that says this, before this byte
-field-before : (s : List ℕ) (start stop : ℕ) (said : Said) (end : ℕ) → FieldDone s start said end → end < length s → getD s end 0 ≡ stop
-    → FieldBefore s start stop (wordOf said) end
-field-before s start stop said end d h e =
-    record {
-      says = ap wordOf (d .0 .said) ∙ word-said (fieldOf (fieldAt s start));
-      ends = d .0 .end;
-      inside = h;
-      behind = e;
-    }
-
-module _ (s : List ℕ) (start value end stop : ℕ) (w : Stop stop) (k : Scanning s start value true end) (n : NumberAt s start end stop) where
-  abbrev f : Scanned
-  f = stopped value true end
-
-  number-scanned : ScannedAt s start f
-  number-scanned = scanned-stop s start value true end k (n .inside) stop w (n .behind)
-
-  number-done : FieldDone s start (Number value) end
-  number-done =
-      let sc = number-scanned in
-      elim (ℕ-discrete end (start + 1)) [
-        | yes e ↦
-            done-one s start f sc e
-            (λ (d : getD s start 0 ≡ 45). no-dash (fieldAt s start) value (sc .said) (start-is s start f sc e ∙ d)) (Number value) refl
-        | no q ↦ done-many s start f sc (n .some) q (λ (z : getD s start 0 ≡ 48). q (n .leading z)) (Number value) refl
-      ]
-
-  pub number-before : FieldBefore s start stop value end
-  number-before = field-before s start stop (Number value) end number-done (n .inside) (n .behind)
-
--- `-` before this byte
-pub dash-before : (s : List ℕ) (start stop : ℕ) → Stop stop → start + 1 < length s → getD s start 0 ≡ 45 → getD s (start + 1) 0 ≡ stop
-    → FieldBefore s start stop DASH (start + 1)
-dash-before s start stop w h d e =
-    let one = field-one s start stop w h e (omega arith) in
-    let long : length (fieldAt s start) ≡ 1 = rw (length-take, length-drop) (omega (arith, one)) in
-    let first : getD (fieldAt s start) 0 0 ≡ 45 =
-    rw (getD-take (fieldLength (drop start s)) (drop start s) 0 0 (omega (arith, one)), getD-drop)
-    (ap (λ (n : ℕ). getD s n 0) (let z : start + 0 ≡ start = omega arith in z) ∙ d) in
-    record {
-      says = sym (ap wordOf (said-dash (fieldAt s start) long first)) ∙ word-said (fieldOf (fieldAt s start));
-      ends = one;
-      inside = h;
-      behind = e;
-    }

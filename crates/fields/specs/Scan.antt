@@ -1,12 +1,11 @@
 -- A field as the code finds it. Laws join it to Records; nothing here adds to document 01's meaning.
 use mathlib.Core.Path.{_≡_}
-use mathlib.Core.Bool.{Bool, true, cond, _&&_}
-use mathlib.Core.Logic.{_⊎_}
+use mathlib.Core.Bool.{Bool, true, false, cond, _&&_}
 use mathlib.Core.List.{List, [], _∷_}
 use Prim.Native.Nat.{ℕ, suc, _+_, _-_, min, _≤_, _<_}
-use lib.Dec.{eqb}
+use lib.Dec.{eqb, ltb, leb}
 use lib.ListN.{length, take, drop, getD}
-use Rattle.decimal.specs.Number.{allDigits, valueFrom}
+use Rattle.decimal.specs.Number.{isDigit, allDigits, valueFrom}
 use Rattle.lines.specs.Lines.{LF, COMMA}
 use Rattle.lines.specs.Records.{Field, number, dash, other, fieldOf}
 use Rattle.lines.specs.Words.{CAP, DASH, OTHER, word}
@@ -14,6 +13,8 @@ use Rattle.fields.specs.declared.Said.{Said}
 use Rattle.fields.specs.declared.Said.the-variants.{Number, Dash, Other}
 use Rattle.fields.specs.declared.FieldRead.{FieldRead}
 use Rattle.fields.specs.declared.Scanned.{Scanned}
+use Rattle.fields.specs.declared.Digits.{Digits}
+use Rattle.fields.specs.declared.ShortRead.{ShortRead}
 
 -- how many bytes stand before the first comma or LF: all of them where there is none
 unfoldable pub fieldLength : List ℕ → ℕ
@@ -58,17 +59,6 @@ pub record Scanning (sheet : List ℕ) (start value : ℕ) (all : Bool) (end : �
   pub ends : end + fieldLength (drop end sheet) ≡ start + fieldLength (drop start sheet)
   pub said : digitsFrom all value (fieldAt sheet end) ≡ digitsFrom true 0 (fieldAt sheet start)
 
--- the byte behind a field that does not end the sheet: a comma or LF
-abbrev pub Stop : (byte : ℕ) → Type 0
-Stop byte = (byte ≡ COMMA) ⊎ (byte ≡ LF)
-
--- bytes from start to end, if digits, are a number and the whole field, and this byte stands behind it
-pub record NumberAt (sheet : List ℕ) (start end stop : ℕ) : Type 0 where
-  pub some : end ≡ start → ⊥
-  pub inside : end < length sheet
-  pub behind : getD sheet end 0 ≡ stop
-  pub leading : (getD sheet start 0 ≡ 48) → end ≡ start + 1
-
 -- the field that starts at a place of the sheet, its bytes taken for digits
 pub record ScannedAt (sheet : List ℕ) (start : ℕ) (f : Scanned) : Type 0 where
   pub said : digitsSaid (f .all) (f .value) ≡ digitsFrom true 0 (fieldAt sheet start)
@@ -89,9 +79,39 @@ pub record FieldBounds (sheet : List ℕ) (start : ℕ) (f : FieldRead) : Type 0
 abbrev pub EndsInLF : (sheet : List ℕ) → Type 0
 EndsInLF sheet = getD sheet (length sheet - 1) 0 ≡ LF
 
--- the field that starts at a place of the sheet says this word, ends here, and this byte stands behind it
-pub record FieldBefore (sheet : List ℕ) (start stop said end : ℕ) : Type 0 where
+-- `1` to `9`
+abbrev pub isLeading : (byte : ℕ) → Bool
+isLeading byte = ltb 48 byte && leb byte 57
+
+-- digits that a field starts with, and that one more would ask for the cap or is none
+pub record DigitsAt (sheet : List ℕ) (start : ℕ) (d : Digits) : Type 0 where
+  pub scanned : Scanning sheet start (d .value) true (d .end)
+  pub inside : d .end < length sheet
+  pub below : d .value < 1000000000000
+  pub stops : d .value < 100000000000 → isDigit (getD sheet (d .end) 0) ≡ false
+
+-- a word whose field ends before this byte, if it is a comma or LF
+abbrev pub beforeStop : (sheet : List ℕ) → (word end : ℕ) → ShortRead
+beforeStop sheet word end =
+    record {
+      read = cond (eqb (getD sheet end 0) COMMA) true (eqb (getD sheet end 0) LF);
+      word = word;
+      end = end;
+      more = eqb (getD sheet end 0) COMMA;
+    }
+
+-- the word of a number of twelve digits at most, or of `-`
+abbrev pub isShort : (word : ℕ) → Bool
+isShort word = cond (ltb word 1000000000000) true (eqb word DASH)
+
+-- the field that starts at a place of the sheet says this word and ends here, a comma or LF behind it
+pub record FieldBefore (sheet : List ℕ) (start said end : ℕ) (more : Bool) : Type 0 where
   pub says : said ≡ word (fieldOf (fieldAt sheet start))
   pub ends : end ≡ start + fieldLength (drop start sheet)
   pub inside : end < length sheet
-  pub behind : getD sheet end 0 ≡ stop
+  pub behind : more ≡ eqb (getD sheet end 0) COMMA
+
+-- the field that starts at a place of the sheet is read if, and only if, it is a short one
+pub record ShortAt (sheet : List ℕ) (start : ℕ) (f : ShortRead) : Type 0 where
+  pub read : f .read ≡ isShort (word (fieldOf (fieldAt sheet start)))
+  pub before : f .read ≡ true → FieldBefore sheet start (f .word) (f .end) (f .more)

@@ -2,10 +2,10 @@
 ghost use mathlib.Core.Path.{_≡_};
 ghost use mathlib.Core.Bool.{true};
 ghost use Prim.Native.Nat.{_+_, min, _≤_, _<_};
-ghost use lib.ListN.{length, drop};
+ghost use lib.ListN.{length, drop, getD};
 ghost use Rattle.decimal.specs.Number.{isDigit};
 ghost use Rattle.lines.specs.Words.{CAP};
-ghost use Rattle.fields.specs.Scan.{fieldLength, wordOf, digitsSaid, Scanning, Stop, NumberAt, ScannedAt, FieldReadAt, FieldBounds, EndsInLF, FieldBefore};
+ghost use Rattle.fields.specs.Scan.{fieldLength, wordOf, digitsSaid, isLeading, beforeStop, ScannedAt, FieldReadAt, FieldBounds, EndsInLF, DigitsAt, ShortAt};
 use lines::DASH;
 use lines::OTHER;
 
@@ -38,12 +38,13 @@ struct Digits {
     end: usize,
 }
 
-// A short number or `-` as one word, and the place of the byte behind it; where `read` is false the field is another one, and must be read by all
-// its bytes.
+// A field that is a short number or `-`: its word, the place of the byte behind it, and whether that is a comma. Where
+// `read` is false the field is another one.
 pub struct ShortRead {
     pub read: bool,
     pub word: u64,
     pub end: usize,
+    pub more: bool,
 }
 
 // A value below this stays below CAP with one digit more.
@@ -166,16 +167,23 @@ pub fn first_end(s: &[u8], start: usize) -> usize
     first.end
 }
 
-// ---- short numbers, in a sheet whose last byte is LF: no digit is the last byte, and so no loop over digits asks for the sheet's end
+// ---- short numbers and `-`, in a sheet whose last byte is LF: no digit is the last byte, and so no loop over digits asks for the sheet's end
+
+// A digit that numbers of more than one digit start with, `1` to `9`.
+fn is_leading(byte: u8) -> bool
+    ensures { λ r. ⌜ r ≡ isLeading byte ⌝ }
+{
+    if byte <= 48 { false } else { byte <= 57 }
+}
 
 // The digits that a field starts with, as long as their value needs no cap.
 fn leading_digits(s: &[u8], start: usize) -> Digits
     requires { ⌜ (start < length (now s)) × EndsInLF (now s) ⌝ }
-    ensures { λ r. ⌜ Scanning (now (s .entry)) start (r .value) true (r .end) ⌝ }
-    ensures bounded { λ r. ⌜ r .end < length (now (s .entry)) ⌝ }
+    requires { ⌜ isLeading (getD (now s) start 0) ≡ true ⌝ }
+    ensures { λ r. ⌜ DigitsAt (now (s .entry)) start r ⌝ }
 {
-    let mut value: u64 = 0;
-    let mut end = start;
+    let mut value = wide(s[start] - 48);
+    let mut end = start + 1;
     while value < SHORT {
         let byte = s[end];
         if is_digit(byte) {
@@ -188,57 +196,48 @@ fn leading_digits(s: &[u8], start: usize) -> Digits
     Digits { value, end }
 }
 
-// Whether the digits from start to end are a number and `stop` ends the field. A first byte above `0` is a digit, where a comma or LF ends the field.
-fn is_number(s: &[u8], start: usize, end: usize, stop: u8) -> bool
-    requires { ⌜ (start ≤ end) × (end < length (now s)) ⌝ }
-    requires { ⌜ Stop stop ⌝ }
-    ensures { λ r. ⌜ (r ≡ true → NumberAt (now (s .entry)) start end stop) ⌝ }
+// A word whose field ends here, if a comma or LF stands here.
+fn before_stop(s: &[u8], word: u64, end: usize) -> ShortRead
+    requires { ⌜ end < length (now s) ⌝ }
+    ensures { λ r. ⌜ r ≡ beforeStop (now (s .entry)) word end ⌝ }
 {
-    if s[end] != stop {
-        return false;
-    }
-    let first = s[start];
-    if first <= b'0' {
-        if first != b'0' {
-            return false;
-        }
-        return end == start + 1;
-    }
-    true
-}
-
-// The field that starts here, if it is a short number and `stop` stands behind it.
-fn short_number(s: &[u8], start: usize, stop: u8) -> ShortRead
-    requires { ⌜ (start < length (now s)) × EndsInLF (now s) ⌝ }
-    requires { ⌜ Stop stop ⌝ }
-    ensures { λ r. ⌜ (r .read ≡ true → FieldBefore (now (s .entry)) start stop (r .word) (r .end)) ⌝ }
-{
-    let digits = leading_digits(s, start);
-    let end = digits.end;
-    ShortRead {
-        read: is_number(s, start, end, stop),
-        word: digits.value,
-        end,
-    }
-}
-
-// The same, or `-`.
-pub fn short_word(s: &[u8], start: usize, stop: u8) -> ShortRead
-    requires { ⌜ (start < length (now s)) × EndsInLF (now s) ⌝ }
-    requires { ⌜ Stop stop ⌝ }
-    ensures { λ r. ⌜ (r .read ≡ true → FieldBefore (now (s .entry)) start stop (r .word) (r .end)) ⌝ }
-{
-    let number = short_number(s, start, stop);
-    if number.read {
-        return number;
-    }
-    if s[start] == b'-' {
-        let end = start + 1;
+    let stop = s[end];
+    if stop == b',' {
         return ShortRead {
-            read: s[end] == stop,
-            word: DASH,
+            read: true,
+            word,
             end,
+            more: true,
         };
     }
-    number
+    ShortRead {
+        read: stop == b'\n',
+        word,
+        end,
+        more: false,
+    }
+}
+
+// The field that starts here, if it is a number of twelve digits at most or `-`.
+pub fn short_field(s: &[u8], start: usize) -> ShortRead
+    requires { ⌜ (start < length (now s)) × EndsInLF (now s) ⌝ }
+    ensures { λ r. ⌜ ShortAt (now (s .entry)) start r ⌝ }
+{
+    let byte = s[start];
+    if is_leading(byte) {
+        let digits = leading_digits(s, start);
+        return before_stop(s, digits.value, digits.end);
+    }
+    if byte == b'0' {
+        return before_stop(s, 0, start + 1);
+    }
+    if byte == b'-' {
+        return before_stop(s, DASH, start + 1);
+    }
+    ShortRead {
+        read: false,
+        word: 0,
+        end: start,
+        more: false,
+    }
 }

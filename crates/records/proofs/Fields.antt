@@ -1,41 +1,33 @@
 -- The fields of a line, one after the other, over places of the sheet. Assumes nothing.
 use mathlib.Core.Path.{_≡_, refl, sym, ap, ap₂, _∙_}
-use mathlib.Core.Bool.{Bool, true, false, cond, _&&_}
+use mathlib.Core.Bool.{Bool, true, false, cond, _&&_, not}
 use mathlib.Core.Logic.{inl}
-use mathlib.Core.List.{List, [], _∷_, _++_, map}
+use mathlib.Core.List.{List, [], _∷_}
 use Prim.Native.Nat.{ℕ, suc, _+_, _-_, _≤_, _<_}
 use native.Mathlib.Nat.{lt-of-not-le}
 use native.Mathlib.Decide.{decLe}
 use native.Mathlib.Numerals.{add-one}
 use native.Mathlib.Omega.{arith}
-use borrow.Author.Tests.{eq-eqb, ne-eqb, eqb-true, lt-ltb, le-ltb, ltb-true}
+use borrow.Author.Tests.{eq-eqb, ne-eqb, eqb-true, lt-ltb, le-ltb, ltb-true, not-true}
 use lib.Dec.{eqb, ltb}
 use lib.ListN.{length, take, drop, set, getD, replicate, length-take, length-drop, length-set, length-map}
 use lib.Seq.{sets, set-out, drop-cons, drop-drop, getD-drop}
-use Rattle.decimal.proofs.Bools.{and-both, ltb-suc}
+use Rattle.decimal.proofs.Bools.{and-both, never, ltb-suc}
 use Rattle.lines.specs.Lines.{LF, COMMA, beforeField, fieldsOf}
 use Rattle.lines.specs.Records.{kindOf, kindIn, fieldOf, recordOf}
 use Rattle.lines.specs.Words.{word, words, lineLength, lineAt, ReadAt}
-use Rattle.fields.specs.Scan.{fieldLength, fieldAt, wordOf, FieldReadAt, EndsInLF}
+use Rattle.fields.specs.Scan.{fieldLength, fieldAt, wordOf, isShort, FieldReadAt, FieldBounds, EndsInLF, ShortAt}
 use Rattle.fields.proofs.Scanning.{field-one, not-last, word-said}
-use Rattle.records.specs.Reading.{commaAt, stored, fieldEnd, FieldsBefore, firstWord, otherWords, ShortFieldsAt}
-use Rattle.records.specs.declared.ShortFields.{ShortFields}
+use Rattle.records.specs.Reading.{commaAt, stored, fieldEnd, lineFields, nextFields, lastEnd, nextWords, FieldsRead, ReadSoFar, HeadIs, letterFirst, HeadAt, Ahead, stayed, passed, stepOf}
+use Rattle.records.specs.declared.Head.{Head}
+use Rattle.records.specs.declared.Step.{Step}
 use Rattle.lines.specs.declared.Kind.{Kind}
 use Rattle.lines.specs.declared.Kind.the-variants.{Unknown}
+use Rattle.lines.specs.declared.LineRead.{LineRead}
 use Rattle.fields.specs.declared.FieldRead.{FieldRead}
+use Rattle.fields.specs.declared.ShortRead.{ShortRead}
 
 -- ---- the first field of the bytes that are left
-
--- the fields of the line that these bytes start with
-unfoldable pub lineFields : List ℕ → List (List ℕ)
-lineFields bytes = fieldsOf (take (lineLength bytes) bytes)
-
--- the fields after the one that ends here, and where their line ends
-unfoldable pub nextFields : List ℕ → (end : ℕ) → List (List ℕ)
-nextFields s end = cond (commaAt s end) (lineFields (drop (end + 1) s)) []
-
-unfoldable pub lastEnd : List ℕ → (end : ℕ) → ℕ
-lastEnd s end = cond (commaAt s end) (end + 1 + lineLength (drop (end + 1) s)) end
 
 line-fields : (b : ℕ) (bs : List ℕ)
     → lineFields (b ∷ bs) ≡ cond (eqb b LF) ([] ∷ []) (cond (eqb b COMMA) ([] ∷ lineFields bs) (beforeField b (lineFields bs)))
@@ -181,17 +173,6 @@ store-set l k v h =
       | no g ↦ simp (lt-ltb k 8 (lt-of-not-le g))
     ]
 
--- the words of the fields after the one that ends here
-abbrev pub nextWords : List ℕ → (end : ℕ) → List ℕ
-nextWords s end = map word (map fieldOf (nextFields s end))
-
--- what is known once the fields up to end are read; the first field ends at first
-pub record FieldsRead (s : List ℕ) (first : ℕ) (held : List ℕ) (count end : ℕ) : Type 0 where
-  pub size : length held ≡ 8
-  pub words : sets held count (nextWords s end) ≡ sets (replicate 8 0) 0 (nextWords s first)
-  pub counted : count + length (nextFields s end) ≡ length (nextFields s first)
-  pub ended : lastEnd s end ≡ lastEnd s first
-
 pub none-read : (s : List ℕ) (first : ℕ) → FieldsRead s first (replicate 8 0) 0 first
 none-read s first = record { size = refl; words = refl; counted = omega arith; ended = refl }
 
@@ -216,8 +197,7 @@ module _ (s : List ℕ) (first : ℕ) (held : List ℕ) (count end : ℕ) (r : F
       rw (store-set held count (wordOf (f .said)) (r .size), add-one count)
       (word-read (wordOf (f .said)) (f .end) h (ap wordOf (k .said) ∙ word-said (fieldOf (fieldAt s (end + 1)))) (k .end))
 
-  pub all-read : (start : ℕ) (kind : Kind) → start ≤ length s → first ≡ start + fieldLength (drop start s)
-      → kind ≡ kindIn (take (first - start) (drop start s)) → commaAt s end ≡ false
+  pub all-read : (start : ℕ) (kind : Kind) → start ≤ length s → first ≡ fieldEnd s start → kind ≡ recordOf (lineAt s start) .kind → commaAt s end ≡ false
       → ReadAt s start (record { kind = kind; count = count; words = held; end = end })
   unfolding recordOf lineAt lineFields words
   all-read start kind h f l z =
@@ -227,96 +207,213 @@ module _ (s : List ℕ) (first : ℕ) (held : List ℕ) (count end : ℕ) (r : F
       let w : held ≡ sets (replicate 8 0) 0 (nextWords s first) = rw t at (r .words) in
       let d : end ≡ start + lineLength (drop start s) = sym (no-end s end z) ∙ r .ended ∙ sym (first-end s start first h f) in
       record {
-        kind = kind-is s start first kind h f l;
+        kind = l;
         count = rw (q, length-map) (sym n);
         words = rw q w;
         end = d;
       }
 
--- ---- fields that are read one by one
-
-comma-at : (s : List ℕ) (e : ℕ) → e < length s → getD s e 0 ≡ COMMA → commaAt s e ≡ true
-comma-at s e h c = simp (lt-ltb e (length s) h, eq-eqb (getD s e 0) COMMA c)
-
-none-at : (s : List ℕ) (e : ℕ) → e < length s → getD s e 0 ≡ LF → commaAt s e ≡ false
-none-at s e h c = simp (lt-ltb e (length s) h, ne-eqb (getD s e 0) COMMA (λ z. omega arith))
-
--- fields before a comma and the fields behind it
-pub before-append : (s : List ℕ) (stop next : ℕ) (more : List ℕ) (end : ℕ) (others : List ℕ) (start first middle : ℕ)
-    → FieldsBefore s start COMMA first others middle → FieldsBefore s (middle + 1) stop next more end
-    → FieldsBefore s start stop first (others ++ next ∷ more) end
-before-append s stop next more end [] start first middle a b =
-    let e : middle ≡ fieldEnd s start = a .ends in
-    (rw e at a, rw e at b)
-before-append s stop next more end (v ∷ vs) start first middle a b =
-    (a .0, before-append s stop next more end vs (fieldEnd s start + 1) v middle (a .1) b)
-
--- the place behind fields that are read, and the byte there
-pub before-inside : (s : List ℕ) (stop end : ℕ) (others : List ℕ) (start first : ℕ) → FieldsBefore s start stop first others end
-    → (end < length s) × (getD s end 0 ≡ stop)
-before-inside s stop end [] start first b = (b .inside, b .behind)
-before-inside s stop end (v ∷ vs) start first b = before-inside s stop end vs (fieldEnd s start + 1) v (b .1)
-
--- a field follows the comma behind them
-pub before-next : (s : List ℕ) (end : ℕ) (others : List ℕ) (start first : ℕ) → EndsInLF s → FieldsBefore s start COMMA first others end → end + 1 < length s
-before-next s end others start first l b =
-    let k = before-inside s COMMA end others start first b in
-    not-last s end l (k .0) (λ e. omega (arith, k .1))
-
--- fields that follow those read so far
-before-read : (s : List ℕ) (stop e : ℕ) (line : ℕ) (others : List ℕ) (first : ℕ) (held : List ℕ) (count end : ℕ) → FieldsRead s line held count end
-    → commaAt s end ≡ true → FieldsBefore s (end + 1) stop first others e
-    → FieldsRead s line (sets held count (first ∷ others)) (count + suc (length others)) e
-before-read s stop e line [] first held count end r h b =
-    let n : count + 1 ≡ suc count = omega arith in
-    rw n (word-read s line held count end r first e h (b .says) (b .ends))
-before-read s stop e line (v ∷ vs) first held count end r h b =
-    let here = b .0 in
-    let n : count + suc (suc (length vs)) ≡ suc count + suc (length vs) = omega arith in
-    rw n
-    (before-read s stop e line vs v (set held count first) (suc count) (fieldEnd s (end + 1))
-    (word-read s line held count end r first (fieldEnd s (end + 1)) h (here .says) (here .ends))
-    (comma-at s (fieldEnd s (end + 1)) (here .inside) (here .behind)) (b .1))
+-- ---- a line's head
 
 -- a byte above a comma and a comma behind it, in a sheet that ends in LF
-pub record LetterAt (s : List ℕ) (start : ℕ) : Type 0 where
-  pub ends : EndsInLF s
-  pub letter : COMMA < getD s start 0
-  pub comma : getD s (start + 1) 0 ≡ COMMA
-  pub inside : start + 1 < length s
-  pub next : start + 2 < length s
+record LetterAt (s : List ℕ) (start : ℕ) : Type 0 where
+  ends : EndsInLF s
+  letter : COMMA < getD s start 0
+  comma : getD s (start + 1) 0 ≡ COMMA
+  inside : start + 1 < length s
 
-pub letter-at : (s : List ℕ) (start : ℕ) → ltb start (length s - 1) && ltb COMMA (getD s start 0) ≡ true
+letter-at : (s : List ℕ) (start : ℕ) → ltb start (length s - 1) && ltb COMMA (getD s start 0) ≡ true
     → eqb (getD s (length s - 1) 0) LF && eqb (getD s (start + 1) 0) COMMA ≡ true → LetterAt s start
 letter-at s start e f =
     let a = and-both (ltb start (length s - 1)) (ltb COMMA (getD s start 0)) e in
     let b = and-both (eqb (getD s (length s - 1) 0) LF) (eqb (getD s (start + 1) 0) COMMA) f in
-    let l : EndsInLF s = eqb-true _ _ (b .0) in
-    let c : getD s (start + 1) 0 ≡ COMMA = eqb-true _ _ (b .1) in
     let h : start < length s - 1 = ltb-true _ _ (a .0) in
-    let i : start + 1 < length s = omega arith in
-    let n = not-last s (start + 1) l i (λ z. omega (arith, c)) in
-    record { ends = l; letter = ltb-true _ _ (a .1); comma = c; inside = i; next = omega (arith, n) }
+    record { ends = eqb-true _ _ (b .0); letter = ltb-true _ _ (a .1); comma = eqb-true _ _ (b .1); inside = omega arith }
 
--- a letter, a comma and fields up to LF are a line
-pub short-line : (s : List ℕ) (start : ℕ) (f : ShortFields) → LetterAt s start → ShortFieldsAt s (start + 2) f
-    → ReadAt s start (record { kind = kindOf (getD s start 0); count = f .count; words = f .words; end = f .end })
-    × ((start ≤ f .end) × (f .end ≤ length s))
-short-line s start f a k =
-    let h = a .inside in
-    let c = a .comma in
-    let l = a .letter in
-    let first = field-one s start COMMA (inl refl) h c l in
-    let two : start + 1 + 1 ≡ start + 2 = omega arith in
-    let stop = before-inside s LF (f .end) (otherWords f) (start + 2) (firstWord f) (k .before) in
-    let one : start + 1 - start ≡ 1 = omega arith in
-    let w : sets (replicate 8 0) 0 (firstWord f ∷ otherWords f) ≡ f .words = sym (k .words) in
-    let n : 0 + suc (length (otherWords f)) ≡ f .count = omega (arith, k .count) in
-    let r : FieldsRead s (start + 1) (f .words) (f .count) (f .end) =
-    rw (w, n) at
-    (before-read s LF (f .end) (start + 1) (otherWords f) (firstWord f) (replicate 8 0) 0 (start + 1) (none-read s (start + 1))
-    (comma-at s (start + 1) h c) (rw two (k .before))) in
-    let line =
-    all-read s (start + 1) (f .words) (f .count) (f .end) r start (kindOf (getD s start 0)) (omega arith) first
-    (kind-one s start (start + 1) (omega arith) (omega arith) one) (none-at s (f .end) (stop .0) (stop .1)) in
-    (line, (omega (arith, line .end), omega (arith, stop .0)))
+comma-at : (s : List ℕ) (e : ℕ) → e < length s → getD s e 0 ≡ COMMA → commaAt s e ≡ true
+comma-at s e h c = simp (lt-ltb e (length s) h, eq-eqb (getD s e 0) COMMA c)
+
+pub any-head : (s : List ℕ) (start end : ℕ) (kind : Kind) → start ≤ length s → end ≡ fieldEnd s start → end ≤ length s
+    → kind ≡ kindIn (take (end - start) (drop start s)) → HeadIs s start kind end
+any-head s start end kind h e m k = record { kind-is = kind-is s start end kind h e k; ends = e; most = m }
+
+module _ (s : List ℕ) (start : ℕ) (e : ltb start (length s - 1) && ltb COMMA (getD s start 0) ≡ true)
+    (f : eqb (getD s (length s - 1) 0) LF && eqb (getD s (start + 1) 0) COMMA ≡ true) where
+  pub letter-head : HeadIs s start (kindOf (getD s start 0)) (start + 1)
+  letter-head =
+      let a = letter-at s start e f in
+      let i = a .inside in
+      any-head s start (start + 1) (kindOf (getD s start 0)) (omega arith) (field-one s start (a .inside) (inl (a .comma)) (a .letter)) (omega arith)
+      (kind-one s start (start + 1) (omega arith) (omega arith) (let one : start + 1 - start ≡ 1 = omega arith in one))
+
+pub no-letter : (s : List ℕ) (start : ℕ) → ltb start (length s - 1) && ltb COMMA (getD s start 0) ≡ false → letterFirst s start ≡ false
+no-letter s start e = ap (λ (p : Bool). cond p (eqb (getD s (length s - 1) 0) LF && eqb (getD s (start + 1) 0) COMMA) false) e
+
+-- ---- steps
+
+field-short : (bs : List ℕ) → fieldLength bs ≤ length bs
+unfolding fieldLength
+field-short [] = omega arith
+field-short (b ∷ bs) = go (field-short bs) (eqb b LF) (eqb b COMMA)
+  where
+    go : fieldLength bs ≤ length bs → (p q : Bool) → cond p 0 (cond q 0 (suc (fieldLength bs))) ≤ suc (length bs)
+    go h true q = omega arith
+    go h false true = omega arith
+    go h false false = omega arith
+
+pub field-most : (s : List ℕ) (start : ℕ) → start ≤ length s → fieldEnd s start ≤ length s
+field-most s start h = omega (arith, field-short (drop start s), length-drop start s)
+
+-- a byte of a field stands behind a comma
+pub ahead-inside : (s : List ℕ) (at : ℕ) → EndsInLF s × (commaAt s at ≡ true) → at + 1 < length s
+ahead-inside s at a =
+    let i = comma-in s at (a .1) in
+    not-last s at (a .0) i (λ (e : getD s at 0 ≡ LF). absurd (never (sym (simp (lt-ltb at (length s) i, ne-eqb (getD s at 0) COMMA (λ c. omega arith))) ∙ a .1)))
+
+-- what is known after steps for k fields
+pub record Steps (s : List ℕ) (first : ℕ) (k : ℕ) (held : List ℕ) (f : Step) : Type 0 where
+  pub fields : FieldsRead s first held (f .count) (f .end)
+  pub tried : f .more ≡ true → (f .count ≡ k) × (commaAt s (f .end) ≡ true)
+  pub ended : f .done ≡ true → commaAt s (f .end) ≡ false
+  pub least : first ≤ f .end
+  pub most : f .end ≤ length s
+
+module _ (s : List ℕ) (first k : ℕ) (held : List ℕ) (f : Step) (p : Steps s first k held f) (z : set held k 0 ≡ held) where
+  steps-stay : Steps s first (suc k) (set held k 0) (stayed f)
+  steps-stay =
+      rw z
+      record { fields = p .fields; tried = λ e. absurd (never e); ended = p .ended; least = p .least; most = p .most }
+
+  steps-pass : f .more ≡ true → Steps s first (suc k) (set held k (passed s f .word)) (passed s f)
+  steps-pass e =
+      let o = p .tried e in
+      let i = comma-in s (f .end) (o .1) in
+      let m = field-most s (f .end + 1) (omega arith) in
+      let one : f .count + 1 ≡ suc (f .count) = omega arith in
+      record {
+        fields = rw (one, sym (o .0)) (word-read s first held (f .count) (f .end) (p .fields) _ _ (o .1) refl refl);
+        tried = λ c. (omega (arith, o .0), c);
+        ended = λ c. not-true _ c;
+        least = omega (arith, p .least);
+        most = m;
+      }
+
+  steps-next : Steps s first (suc k) (set held k (stepOf s f .word)) (stepOf s f)
+  unfolding stepOf
+  steps-next = go (f .more) refl (isShort (word (fieldOf (fieldAt s (f .end + 1)))))
+    where
+      go : (m : Bool) → f .more ≡ m → (t : Bool)
+          → Steps s first (suc k) (set held k (cond m (cond t (passed s f) (stayed f)) (stayed f) .word)) (cond m (cond t (passed s f) (stayed f)) (stayed f))
+      go true e true = steps-pass e
+      go true e false = steps-stay
+      go false e t = steps-stay
+
+  pub step : (r : Step) → r ≡ stepOf s f → Steps s first (suc k) (set held k (r .word)) r
+  step r e = rw e steps-next
+
+-- ---- one step of the code
+
+module _ (s : List ℕ) (f : Step) (g : ShortRead) (k : ShortAt s (f .end + 1) g) where
+  -- the field that was read
+  abbrev pub went : Step
+  went = record { word = g .word; count = f .count + 1; end = g .end; more = g .more; done = not (g .more) }
+
+  module _ (t : g .read ≡ true) where
+    behind : g .more ≡ commaAt s (g .end)
+    behind = let b = k .before t in b .behind ∙ sym (simp (lt-ltb (g .end) (length s) (b .inside)))
+
+    went-passed : went ≡ passed s f
+    went-passed = let b = k .before t in rw (behind, b .says, b .ends)
+
+    pub step-passed : f .more ≡ true → went ≡ stepOf s f
+    unfolding stepOf
+    step-passed m =
+        went-passed ∙ sym (ap₂ (λ (p q : Bool). cond p (cond q (passed s f) (stayed f)) (stayed f)) m (sym (k .read) ∙ t))
+
+    pub step-ahead : EndsInLF s → Ahead s went
+    step-ahead l e = (l, sym behind ∙ e)
+
+    pub step-fits : f .count ≤ f .end → f .count + 1 ≤ g .end
+    step-fits h = let b = k .before t in omega (arith, b .ends)
+
+  pub step-stayed : g .read ≡ false → stayed f ≡ stepOf s f
+  unfolding stepOf
+  step-stayed t = go (f .more) (isShort (word (fieldOf (fieldAt s (f .end + 1))))) (sym (k .read) ∙ t)
+    where
+      go : (p q : Bool) → q ≡ false → stayed f ≡ cond p (cond q (passed s f) (stayed f)) (stayed f)
+      go p true e = absurd (never (sym e))
+      go true false e = refl
+      go false false e = refl
+
+pub step-none : (s : List ℕ) (f : Step) → f .more ≡ false → stayed f ≡ stepOf s f
+unfolding stepOf
+step-none s f m =
+    ap (λ (p : Bool). cond p (cond (isShort (word (fieldOf (fieldAt s (f .end + 1))))) (passed s f) (stayed f)) (stayed f)) (sym m)
+
+-- ---- the line
+
+-- both tests of a letter and a comma
+letter-both : (p q : Bool) → cond p q false ≡ true → (p ≡ true) × (q ≡ true)
+letter-both true q e = (refl, e)
+letter-both false q e = absurd (never e)
+
+module _ (s : List ℕ) (start : ℕ) (h : Head) (k : HeadAt s start h) where
+  pub head-ahead : h .more ≡ true → EndsInLF s × (commaAt s (h .end) ≡ true)
+  head-ahead e =
+      let b = letter-both _ _ (sym (k .letter) ∙ e) in
+      let a = letter-at s start (b .0) (b .1) in
+      let end : start + 1 ≡ h .end = field-one s start (a .inside) (inl (a .comma)) (a .letter) ∙ sym (k .is .ends) in
+      (a .ends, rw (sym end) (comma-at s (start + 1) (a .inside) (a .comma)))
+
+  pub no-step : Steps s (fieldEnd s start) 0 (replicate 8 0) (record { word = 0; count = 0; end = h .end; more = h .more; done = false })
+  no-step =
+      let e = k .is .ends in
+      record {
+        fields = rw e (none-read s (fieldEnd s start));
+        tried = λ m. (refl, head-ahead m .1);
+        ended = λ d. absurd (never d);
+        least = omega arith;
+        most = k .is .most;
+      }
+
+-- the line up to the last step, and that it is all of it where that says so
+pub eight-read : (s : List ℕ) (start : ℕ) (hd : Head) (a b c d e f g h : Step) → HeadAt s start hd
+    → a ≡ stepOf s (record { word = 0; count = 0; end = hd .end; more = hd .more; done = false }) → b ≡ stepOf s a → c ≡ stepOf s b → d ≡ stepOf s c
+    → e ≡ stepOf s d → f ≡ stepOf s e → g ≡ stepOf s f → h ≡ stepOf s g → h .count ≤ h .end
+    → ReadSoFar s start
+    (record {
+      kind = hd .kind;
+      count = h .count;
+      words = a .word ∷ b .word ∷ c .word ∷ d .word ∷ e .word ∷ f .word ∷ g .word ∷ h .word ∷ [];
+      end = h .end;
+    })
+    × (h .done ≡ true → commaAt s (h .end) ≡ false)
+eight-read s start hd a b c d e f g h k ea eb ec ed ee ef eg eh n =
+    let first : ℕ = fieldEnd s start in
+    let sa = step s first 0 _ _ (no-step s start hd k) refl a ea in
+    let sb = step s first 1 _ a sa refl b eb in
+    let sc = step s first 2 _ b sb refl c ec in
+    let sd = step s first 3 _ c sc refl d ed in
+    let se = step s first 4 _ d sd refl e ee in
+    let sf = step s first 5 _ e se refl f ef in
+    let sg = step s first 6 _ f sf refl g eg in
+    let sh = step s first 7 _ g sg refl h eh in
+    (record { kind = k .is .kind-is; fields = sh .fields; least = omega (arith, sh .least); most = sh .most; fits = n }, sh .ended)
+
+module _ (s : List ℕ) (start : ℕ) (l : LineRead) (p : ReadSoFar s start l) where
+  -- no field is left
+  pub so-far-all : commaAt s (l .end) ≡ false → ReadAt s start l × ((start ≤ l .end) × (l .end ≤ length s))
+  so-far-all z =
+      (all-read s (fieldEnd s start) (l .words) (l .count) (l .end) (p .fields) start (l .kind) (omega (arith, p .least, p .most)) refl (p .kind) z, (p .least, p .most))
+
+  -- one field more
+  pub so-far-more : (f : FieldRead) → commaAt s (l .end) ≡ true → FieldReadAt s (l .end + 1) f → FieldBounds s (l .end + 1) f
+      → ReadSoFar s start (record { kind = l .kind; count = l .count + 1; words = stored (l .words) (l .count) (wordOf (f .said)); end = f .end })
+  so-far-more f c k b =
+      record {
+        kind = p .kind;
+        fields = one-read s (fieldEnd s start) (l .words) (l .count) (l .end) (p .fields) f c k;
+        least = omega (arith, p .least, b .least);
+        most = b .most;
+        fits = omega (arith, p .fits, b .least);
+      }

@@ -1,16 +1,19 @@
 -- A line's fields as the code reads them. Laws join them to Records; nothing here adds to document 01's meaning.
 use mathlib.Core.Path.{_≡_}
-use mathlib.Core.Bool.{Bool, false, cond}
-use mathlib.Core.List.{List, [], _∷_}
-use Prim.Native.Nat.{ℕ, suc, _+_, _-_}
+use mathlib.Core.Bool.{Bool, true, false, cond, _&&_, not}
+use mathlib.Core.List.{List, [], map}
+use Prim.Native.Nat.{ℕ, _+_, _-_, _≤_}
 use lib.Dec.{eqb, ltb}
 use lib.ListN.{length, take, drop, getD, set, replicate}
 use lib.Seq.{sets}
-use Rattle.lines.specs.Lines.{LF, COMMA}
+use Rattle.lines.specs.Lines.{LF, COMMA, fieldsOf}
+use Rattle.lines.specs.Records.{fieldOf, recordOf}
+use Rattle.lines.specs.Words.{word, lineLength, lineAt}
 use Rattle.lines.specs.declared.Kind.{Kind}
-use Rattle.lines.specs.declared.Kind.the-variants.{Process, SourceStream, Heat, WasteGas, Power, BoughtPrecursor, OwnGood, Unknown}
-use Rattle.fields.specs.Scan.{fieldLength, FieldBefore}
-use Rattle.records.specs.declared.ShortFields.{ShortFields}
+use Rattle.lines.specs.declared.LineRead.{LineRead}
+use Rattle.fields.specs.Scan.{fieldLength, fieldAt, isShort, EndsInLF}
+use Rattle.records.specs.declared.Head.{Head}
+use Rattle.records.specs.declared.Step.{Step}
 
 -- whether a comma stands at a place of the sheet
 abbrev pub commaAt : (sheet : List ℕ) → (place : ℕ) → Bool
@@ -20,36 +23,82 @@ commaAt sheet place = cond (ltb place (length sheet)) (eqb (getD sheet place 0) 
 abbrev pub stored : (words : List ℕ) → (k : ℕ) → (word : ℕ) → List ℕ
 stored words k word = cond (ltb k 8) (set words k word) words
 
--- how many fields a line of a kind has after its first where it keeps the rules
-abbrev pub usualFields : Kind → ℕ
-usualFields Process = 2
-usualFields SourceStream = 8
-usualFields Heat = 4
-usualFields WasteGas = 3
-usualFields Power = 4
-usualFields BoughtPrecursor = 4
-usualFields OwnGood = 3
-usualFields Unknown = 0
-
 -- where the field that starts at a place ends
 abbrev pub fieldEnd : (sheet : List ℕ) → (start : ℕ) → ℕ
 fieldEnd sheet start = start + fieldLength (drop start sheet)
 
--- the fields that start at a place say these words, commas between them; the last ends here, and this byte stands behind it
-abbrev pub FieldsBefore : (sheet : List ℕ) → (start stop : ℕ) → (first : ℕ) → (others : List ℕ) → (end : ℕ) → Type 0
-FieldsBefore sheet start stop first [] end = FieldBefore sheet start stop first end
-FieldsBefore sheet start stop first (next ∷ others) end =
-    FieldBefore sheet start COMMA first (fieldEnd sheet start) × FieldsBefore sheet (fieldEnd sheet start + 1) stop next others end
+-- ---- the fields that are left
 
--- the first word that is held, and the others
-abbrev pub firstWord : ShortFields → ℕ
-firstWord f = getD (f .words) 0 0
+-- the fields of the line that these bytes start with
+unfoldable pub lineFields : List ℕ → List (List ℕ)
+lineFields bytes = fieldsOf (take (lineLength bytes) bytes)
 
-abbrev pub otherWords : ShortFields → List ℕ
-otherWords f = take (f .count - 1) (drop 1 (f .words))
+-- the fields after the one that ends here, and where their line ends
+unfoldable pub nextFields : (sheet : List ℕ) → (end : ℕ) → List (List ℕ)
+nextFields sheet end = cond (commaAt sheet end) (lineFields (drop (end + 1) sheet)) []
 
--- the fields from a place to the line's LF say the words that are held
-pub record ShortFieldsAt (sheet : List ℕ) (start : ℕ) (f : ShortFields) : Type 0 where
-  pub before : FieldsBefore sheet start LF (firstWord f) (otherWords f) (f .end)
-  pub words : f .words ≡ sets (replicate 8 0) 0 (firstWord f ∷ otherWords f)
-  pub count : f .count ≡ suc (length (otherWords f))
+unfoldable pub lastEnd : (sheet : List ℕ) → (end : ℕ) → ℕ
+lastEnd sheet end = cond (commaAt sheet end) (end + 1 + lineLength (drop (end + 1) sheet)) end
+
+-- the words of the fields after the one that ends here
+abbrev pub nextWords : (sheet : List ℕ) → (end : ℕ) → List ℕ
+nextWords sheet end = map word (map fieldOf (nextFields sheet end))
+
+-- what is known once the fields up to end are read; the first field ends at first
+pub record FieldsRead (sheet : List ℕ) (first : ℕ) (held : List ℕ) (count end : ℕ) : Type 0 where
+  pub size : length held ≡ 8
+  pub words : sets held count (nextWords sheet end) ≡ sets (replicate 8 0) 0 (nextWords sheet first)
+  pub counted : count + length (nextFields sheet end) ≡ length (nextFields sheet first)
+  pub ended : lastEnd sheet end ≡ lastEnd sheet first
+
+-- a line of which some fields are read
+pub record ReadSoFar (sheet : List ℕ) (start : ℕ) (l : LineRead) : Type 0 where
+  pub kind : l .kind ≡ recordOf (lineAt sheet start) .kind
+  pub fields : FieldsRead sheet (fieldEnd sheet start) (l .words) (l .count) (l .end)
+  pub least : start ≤ l .end
+  pub most : l .end ≤ length sheet
+  pub fits : l .count ≤ l .end
+
+-- ---- a line's head
+
+-- the kind of a line, and where its first field ends
+pub record HeadIs (sheet : List ℕ) (start : ℕ) (kind : Kind) (end : ℕ) : Type 0 where
+  pub kind-is : kind ≡ recordOf (lineAt sheet start) .kind
+  pub ends : end ≡ fieldEnd sheet start
+  pub most : end ≤ length sheet
+
+-- whether a byte above a comma and a comma behind it start the line, in a sheet that ends in LF
+abbrev pub letterFirst : (sheet : List ℕ) → (start : ℕ) → Bool
+letterFirst sheet start =
+    cond (ltb start (length sheet - 1) && ltb COMMA (getD sheet start 0))
+    (eqb (getD sheet (length sheet - 1) 0) LF && eqb (getD sheet (start + 1) 0) COMMA)
+    false
+
+pub record HeadAt (sheet : List ℕ) (start : ℕ) (h : Head) : Type 0 where
+  pub is : HeadIs sheet start (h .kind) (h .end)
+  pub letter : h .more ≡ letterFirst sheet start
+
+-- ---- a step from field to field
+
+-- where one more field is tried a comma stands, and the sheet ends in LF
+abbrev pub Ahead : (sheet : List ℕ) → Step → Type 0
+Ahead sheet f = f .more ≡ true → EndsInLF sheet × (commaAt sheet (f .end) ≡ true)
+
+-- no field is read
+abbrev pub stayed : Step → Step
+stayed f = record { word = 0; count = f .count; end = f .end; more = false; done = f .done }
+
+-- the next field is read
+abbrev pub passed : (sheet : List ℕ) → Step → Step
+passed sheet f =
+    record {
+      word = word (fieldOf (fieldAt sheet (f .end + 1)));
+      count = f .count + 1;
+      end = fieldEnd sheet (f .end + 1);
+      more = commaAt sheet (fieldEnd sheet (f .end + 1));
+      done = not (commaAt sheet (fieldEnd sheet (f .end + 1)));
+    }
+
+-- it is where one more is tried and it is a short one
+unfoldable pub stepOf : (sheet : List ℕ) → Step → Step
+stepOf sheet f = cond (f .more) (cond (isShort (word (fieldOf (fieldAt sheet (f .end + 1))))) (passed sheet f) (stayed f)) (stayed f)

@@ -1,16 +1,14 @@
 // A line read from the sheet's bytes: its kind's letter, then its fields.
 ghost use mathlib.Core.Path.{_≡_};
-ghost use mathlib.Core.Bool.{true};
-ghost use mathlib.Core.List.{_∷_, []};
+ghost use mathlib.Core.Bool.{false};
 ghost use Prim.Native.Nat.{_-_, _≤_, _<_};
 ghost use lib.ListN.{length, take, drop};
 ghost use Rattle.lines.specs.Records.{kindOf, kindIn, recordOf};
 ghost use Rattle.lines.specs.Words.{lineAt, ReadAt};
-ghost use Rattle.fields.specs.Scan.{EndsInLF, Stop};
-ghost use Rattle.records.specs.Reading.{commaAt, stored, usualFields, FieldsBefore, ShortFieldsAt};
+ghost use Rattle.records.specs.Reading.{commaAt, stored, ReadSoFar, HeadIs, HeadAt, Ahead, stayed, stepOf};
 use fields::first_end;
 use fields::read_field;
-use fields::short_word;
+use fields::short_field;
 use fields::word_of;
 use lines::Kind;
 use lines::LineRead;
@@ -45,12 +43,33 @@ fn kind_in(s: &[u8], start: usize, end: usize) -> Kind
     Kind::Unknown
 }
 
+// The kind of a line and the place behind its first field; `more` where that is a letter and a comma, in a sheet that ends in LF.
+struct Head {
+    kind: Kind,
+    end: usize,
+    more: bool,
+}
+
+// The head of a line, whatever it is.
+fn any_head(s: &[u8], start: usize) -> Head
+    requires { ⌜ start ≤ length (now s) ⌝ }
+    ensures { λ r. ⌜ HeadIs (now (s .entry)) start (r .kind) (r .end) × (r .more ≡ false) ⌝ }
+{
+    let end = first_end(s, start);
+    Head {
+        kind: kind_in(s, start, end),
+        end,
+        more: false,
+    }
+}
+
 // The kind of the line that starts here.
 pub fn line_kind(s: &[u8], start: usize) -> Kind
     requires { ⌜ start ≤ length (now s) ⌝ }
     ensures { λ r. ⌜ r ≡ recordOf (lineAt (now (s .entry)) start) .kind ⌝ }
 {
-    kind_in(s, start, first_end(s, start))
+    let first = any_head(s, start);
+    first.kind
 }
 
 // A comma behind a field: one more field follows.
@@ -73,16 +92,16 @@ fn store(words: &mut [u64; WORDS], k: usize, word: u64)
     }
 }
 
-// The line that starts here, whatever its fields are.
-fn read_any_line(s: &[u8], start: usize) -> LineRead
-    requires { ⌜ start ≤ length (now s) ⌝ }
+// The rest of a line of which some fields are read, whatever the others are.
+fn read_on(s: &[u8], start: usize, l: LineRead) -> LineRead
+    requires { ⌜ ReadSoFar (now s) start l ⌝ }
     ensures { λ r. ⌜ ReadAt (now (s .entry)) start r ⌝ }
     ensures bounded { λ r. ⌜ (start ≤ r .end) × (r .end ≤ length (now (s .entry))) ⌝ }
 {
-    let mut end = first_end(s, start);
-    let kind = kind_in(s, start, end);
-    let mut words = [0u64; WORDS];
-    let mut count: usize = 0;
+    let kind = l.kind;
+    let mut words = l.words;
+    let mut count = l.count;
+    let mut end = l.end;
     while comma_at(s, end) {
         let field = read_field(s, end + 1);
         let said = field.said;
@@ -98,192 +117,116 @@ fn read_any_line(s: &[u8], start: usize) -> LineRead
     }
 }
 
-// ---- a line of short numbers and `-`, in a sheet whose last byte is LF: its fields are read one by one, with no loop over them
+// ---- the first eight fields, one by one: each has its own loop over its digits
 
-// Two words, and the place of the byte behind the second.
-struct TwoRead {
-    read: bool,
-    first: u64,
-    second: u64,
-    end: usize,
-}
-
-// The fields of a line, and the place of its LF; where `read` is false they are other than short numbers.
-struct ShortFields {
-    read: bool,
+// A step from field to field: the word that it read, how many fields are read by now, and the place behind the last of them;
+// `more` where the next field is tried there, `done` where the line ends there.
+struct Step {
+    word: u64,
     count: usize,
-    words: [u64; WORDS],
     end: usize,
+    more: bool,
+    done: bool,
 }
 
-// Two fields that are short numbers or `-`, `stop` behind the second.
-fn two_words(s: &[u8], start: usize, stop: u8) -> TwoRead
-    requires { ⌜ (start < length (now s)) × EndsInLF (now s) ⌝ }
-    requires { ⌜ Stop stop ⌝ }
-    ensures { λ r. ⌜ (r .read ≡ true → FieldsBefore (now (s .entry)) start stop (r .first) (r .second ∷ []) (r .end)) ⌝ }
-{
-    let a = short_word(s, start, b',');
-    let end = a.end;
-    if a.read {
-        let b = short_word(s, end + 1, stop);
-        return TwoRead {
-            read: b.read,
-            first: a.word,
-            second: b.word,
-            end: b.end,
-        };
-    }
-    TwoRead {
-        read: false,
-        first: 0,
-        second: 0,
-        end,
-    }
-}
-
-// Fields that are not read here.
-fn no_fields(start: usize) -> ShortFields
-    ensures { λ r. ⌜ (r .read ≡ true → ⊥) ⌝ }
-{
-    ShortFields {
-        read: false,
-        count: 0,
-        words: [0; WORDS],
-        end: start,
-    }
-}
-
-fn two_fields(s: &[u8], start: usize) -> ShortFields
-    requires { ⌜ (start < length (now s)) × EndsInLF (now s) ⌝ }
-    ensures { λ r. ⌜ (r .read ≡ true → ShortFieldsAt (now (s .entry)) start r) ⌝ }
-{
-    let x = two_words(s, start, b'\n');
-    ShortFields {
-        read: x.read,
-        count: 2,
-        words: [x.first, x.second, 0, 0, 0, 0, 0, 0],
-        end: x.end,
-    }
-}
-
-fn three_fields(s: &[u8], start: usize) -> ShortFields
-    requires { ⌜ (start < length (now s)) × EndsInLF (now s) ⌝ }
-    ensures { λ r. ⌜ (r .read ≡ true → ShortFieldsAt (now (s .entry)) start r) ⌝ }
-{
-    let x = two_words(s, start, b',');
-    if x.read {
-        let y = short_word(s, x.end + 1, b'\n');
-        return ShortFields {
-            read: y.read,
-            count: 3,
-            words: [x.first, x.second, y.word, 0, 0, 0, 0, 0],
-            end: y.end,
-        };
-    }
-    no_fields(start)
-}
-
-fn four_fields(s: &[u8], start: usize) -> ShortFields
-    requires { ⌜ (start < length (now s)) × EndsInLF (now s) ⌝ }
-    ensures { λ r. ⌜ (r .read ≡ true → ShortFieldsAt (now (s .entry)) start r) ⌝ }
-{
-    let x = two_words(s, start, b',');
-    if x.read {
-        let y = two_words(s, x.end + 1, b'\n');
-        return ShortFields {
-            read: y.read,
-            count: 4,
-            words: [x.first, x.second, y.first, y.second, 0, 0, 0, 0],
-            end: y.end,
-        };
-    }
-    no_fields(start)
-}
-
-fn eight_fields(s: &[u8], start: usize) -> ShortFields
-    requires { ⌜ (start < length (now s)) × EndsInLF (now s) ⌝ }
-    ensures { λ r. ⌜ (r .read ≡ true → ShortFieldsAt (now (s .entry)) start r) ⌝ }
-{
-    let x = two_words(s, start, b',');
-    if x.read {
-        let y = two_words(s, x.end + 1, b',');
-        if y.read {
-            let z = two_words(s, y.end + 1, b',');
-            if z.read {
-                let u = two_words(s, z.end + 1, b'\n');
-                return ShortFields {
-                    read: u.read,
-                    count: 8,
-                    words: [
-                        x.first,
-                        x.second,
-                        y.first,
-                        y.second,
-                        z.first,
-                        z.second,
-                        u.first,
-                        u.second,
-                    ],
-                    end: u.end,
-                };
-            }
-        }
-    }
-    no_fields(start)
-}
-
-// How many fields a line of this kind has after its first where it keeps the rules.
-fn usual_fields(kind: Kind) -> usize
-    ensures { λ r. ⌜ r ≡ usualFields kind ⌝ }
-{
-    match kind {
-        Kind::Process => 2,
-        Kind::SourceStream => 8,
-        Kind::Heat => 4,
-        Kind::WasteGas => 3,
-        Kind::Power => 4,
-        Kind::BoughtPrecursor => 4,
-        Kind::OwnGood => 3,
-        Kind::Unknown => 0,
-    }
-}
-
-// So many fields.
-fn short_fields(s: &[u8], start: usize, count: usize) -> ShortFields
-    requires { ⌜ (start < length (now s)) × EndsInLF (now s) ⌝ }
-    ensures { λ r. ⌜ (r .read ≡ true → ShortFieldsAt (now (s .entry)) start r) ⌝ }
-{
-    match count {
-        2 => two_fields(s, start),
-        3 => three_fields(s, start),
-        4 => four_fields(s, start),
-        8 => eight_fields(s, start),
-        _ => no_fields(start),
-    }
-}
-
-// The line that starts here: read at once where it is a letter and as many short numbers as its kind has, else by all its bytes.
-pub fn read_line(s: &[u8], start: usize) -> LineRead
+// The head of a line, at once where it is a letter and a comma.
+fn line_head(s: &[u8], start: usize) -> Head
     requires { ⌜ start < length (now s) ⌝ }
-    ensures { λ r. ⌜ ReadAt (now (s .entry)) start r ⌝ }
-    ensures bounded { λ r. ⌜ (start ≤ r .end) × (r .end ≤ length (now (s .entry))) ⌝ }
+    ensures { λ r. ⌜ HeadAt (now (s .entry)) start r ⌝ }
 {
     let last = s.len() - 1;
     let letter = s[start];
     if (start < last) & (b',' < letter) {
         if (s[last] == b'\n') & (s[start + 1] == b',') {
-            let kind = kind_of(letter);
-            let f = short_fields(s, start + 2, usual_fields(kind));
-            if f.read {
-                let words = f.words;
-                return LineRead {
-                    kind,
-                    count: f.count,
-                    words,
-                    end: f.end,
-                };
-            }
+            return Head {
+                kind: kind_of(letter),
+                end: start + 1,
+                more: true,
+            };
         }
+        return any_head(s, start);
     }
-    read_any_line(s, start)
+    any_head(s, start)
+}
+
+// No field is read.
+fn stay(f: Step) -> Step
+    ensures { λ r. ⌜ r ≡ stayed f ⌝ }
+{
+    Step {
+        word: 0,
+        count: f.count,
+        end: f.end,
+        more: false,
+        done: f.done,
+    }
+}
+
+// The next field, if it is a short number or `-`.
+fn next_field(s: &[u8], f: Step) -> Step
+    requires { ⌜ Ahead (now s) f ⌝ }
+    requires { ⌜ f .count ≤ f .end ⌝ }
+    ensures { λ r. ⌜ r ≡ stepOf (now (s .entry)) f ⌝ }
+    ensures bounded { λ r. ⌜ Ahead (now (s .entry)) r × (r .count ≤ r .end) ⌝ }
+{
+    let at = f.end;
+    if f.more {
+        let field = short_field(s, at + 1);
+        if field.read {
+            return Step {
+                word: field.word,
+                count: f.count + 1,
+                end: field.end,
+                more: field.more,
+                done: !field.more,
+            };
+        }
+        return stay(f);
+    }
+    stay(f)
+}
+
+// The line that starts here: its first eight fields as far as they are short numbers or `-`, and then whatever is left of it.
+pub fn read_line(s: &[u8], start: usize) -> LineRead
+    requires { ⌜ start < length (now s) ⌝ }
+    ensures { λ r. ⌜ ReadAt (now (s .entry)) start r ⌝ }
+    ensures bounded { λ r. ⌜ (start ≤ r .end) × (r .end ≤ length (now (s .entry))) ⌝ }
+{
+    let first = line_head(s, start);
+    let kind = first.kind;
+    let none = Step {
+        word: 0,
+        count: 0,
+        end: first.end,
+        more: first.more,
+        done: false,
+    };
+    let a = next_field(s, none);
+    let b = next_field(s, a);
+    let c = next_field(s, b);
+    let d = next_field(s, c);
+    let e = next_field(s, d);
+    let f = next_field(s, e);
+    let g = next_field(s, f);
+    let h = next_field(s, g);
+    let words = [
+        a.word,
+        b.word,
+        c.word,
+        d.word,
+        e.word,
+        f.word,
+        g.word,
+        h.word,
+    ];
+    let l = LineRead {
+        kind,
+        count: h.count,
+        words,
+        end: h.end,
+    };
+    if h.done {
+        return l;
+    }
+    read_on(s, start, l)
 }

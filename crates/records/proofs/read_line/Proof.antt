@@ -1,61 +1,70 @@
-use Prim.Native.Nat.{_-_, _<_}
 use native.Mathlib.Omega.{arith}
+use Rattle.records.proofs.Fields.{head-ahead, eight-read, so-far-all}
 use borrow.Author.Needs.{needs}
-use borrow.Author.Tests.{ltb-true}
-use lib.ListN.{length}
-use Rattle.decimal.proofs.Bools.{and-both}
-use Rattle.records.proofs.Fields.{letter-at, short-line}
 use Rattle.records.proofs.read_line.Statement.{statement}
 use Rattle.records.proofs.read_line.Tie as tie
 use Rattle.records.proofs.read_line.Reads as reads
 use Rattle.records.proofs.read_line.Lts as lts
-use Rattle.records.proofs.kind_of.Reads as kind-of-reads
-use Rattle.records.proofs.read_any_line.Reads as read-any-line-reads
-use Rattle.records.proofs.short_fields.Reads as short-fields-reads
-use Rattle.records.proofs.usual_fields.Reads as usual-fields-reads
+use Rattle.records.proofs.line_head.Reads as line-head-reads
+use Rattle.records.proofs.next_field.Reads as next-field-reads
+use Rattle.records.proofs.read_on.Reads as read-on-reads
 
-sub-last : tie.Need-sub-last
-sub-last c = search needs
+line-head-requires : tie.Need-line-head-requires
+line-head-requires c κs = search needs
 
-shared-slice-read-letter : tie.Need-shared-slice-read-letter
-shared-slice-read-letter c = search needs
+next-field-requires : tie.Need-next-field-requires
+next-field-requires c κs = (head-ahead _ _ _ (c .line-head .ensures), omega arith)
 
-shared-slice-read-if2 : tie.Need-shared-slice-read-if2
-shared-slice-read-if2 c = search needs
+next-field-requires-2 : tie.Need-next-field-requires-2
+next-field-requires-2 c κs = search needs
 
-add-if2 : tie.Need-add-if2
-add-if2 c = search needs
+next-field-requires-3 : tie.Need-next-field-requires-3
+next-field-requires-3 c κs = search needs
 
-shared-slice-read-if2-2 : tie.Need-shared-slice-read-if2-2
-shared-slice-read-if2-2 c =
-    let s = c .before .before .before .before .before .args in
-    let h : s .start < length (s .s .now) - 1 = ltb-true _ _ (and-both _ _ (c .before .before .if1 .taken) .0) in
-    omega arith
+next-field-requires-4 : tie.Need-next-field-requires-4
+next-field-requires-4 c κs = search needs
 
-kind-of-requires : tie.Need-kind-of-requires
-kind-of-requires c κs = search needs
+next-field-requires-5 : tie.Need-next-field-requires-5
+next-field-requires-5 c κs = search needs
 
-add-short-fields : tie.Need-add-short-fields
-add-short-fields c = search needs
+next-field-requires-6 : tie.Need-next-field-requires-6
+next-field-requires-6 c κs = search needs
 
-usual-fields-requires : tie.Need-usual-fields-requires
-usual-fields-requires c κs = search needs
+next-field-requires-7 : tie.Need-next-field-requires-7
+next-field-requires-7 c κs = search needs
 
-short-fields-requires : tie.Need-short-fields-requires
-short-fields-requires c κs =
-    let s = c .before .before .before .before .before .before .before .before .args in
-    let a = letter-at (s .s .now) (s .start) (c .before .before .before .before .before .if1 .taken) (c .before .before .if2 .taken) in
-    (a .next, a .ends)
+next-field-requires-8 : tie.Need-next-field-requires-8
+next-field-requires-8 c κs = search needs
 
 returns : tie.Need-returns
 returns c =
-    let k = c .before .before .before .before in
-    let s = c .before .before .before .before .before .before .before .before .before .before .before .args in
-    let a = letter-at (s .s .now) (s .start) (k .before .before .before .before .if1 .taken) (k .before .if2 .taken) in
-    rw (k .kind-of .ensures) (short-line _ _ _ a (c .before .before .short-fields .ensures (c .before .if3 .taken)))
+    let h = c .before in
+    let g = h .before in
+    let f = g .before in
+    let e = f .before in
+    let d = e .before in
+    let k = d .before in
+    let b = k .before in
+    let a = b .before in
+    let w =
+    eight-read _ _ _ _ _ _ _ _ _ _ _ (a .before .line-head .ensures) (a .next-field .ensures .0) (b .next-field2 .ensures .0) (k .next-field3 .ensures .0)
+    (d .next-field4 .ensures .0) (e .next-field5 .ensures .0) (f .next-field6 .ensures .0) (g .next-field7 .ensures .0) (h .next-field8 .ensures .0)
+    (h .next-field8 .ensures .1 .1) in
+    so-far-all _ _ _ (w .0) (w .1 (c .if1 .taken))
 
-read-any-line-requires : tie.Need-read-any-line-requires
-read-any-line-requires c κs = search needs
+read-on-requires : tie.Need-read-on-requires
+read-on-requires c κs =
+    let h = c .before in
+    let g = h .before in
+    let f = g .before in
+    let e = f .before in
+    let d = e .before in
+    let k = d .before in
+    let b = k .before in
+    let a = b .before in
+    eight-read _ _ _ _ _ _ _ _ _ _ _ (a .before .line-head .ensures) (a .next-field .ensures .0) (b .next-field2 .ensures .0) (k .next-field3 .ensures .0)
+    (d .next-field4 .ensures .0) (e .next-field5 .ensures .0) (f .next-field6 .ensures .0) (g .next-field7 .ensures .0) (h .next-field8 .ensures .0)
+    (h .next-field8 .ensures .1 .1) .0
 
 returns-2 : tie.Need-returns-2
 returns-2 c = search needs
@@ -64,15 +73,15 @@ pub read-line-spec : {M : Type 1} → statement M
 read-line-spec =
     tie.close
     (tie.spec
-    sub-last
-    shared-slice-read-letter
-    shared-slice-read-if2
-    add-if2
-    shared-slice-read-if2-2
-    kind-of-requires
-    add-short-fields
-    usual-fields-requires
-    short-fields-requires
+    line-head-requires
+    next-field-requires
+    next-field-requires-2
+    next-field-requires-3
+    next-field-requires-4
+    next-field-requires-5
+    next-field-requires-6
+    next-field-requires-7
+    next-field-requires-8
     returns
-    read-any-line-requires
+    read-on-requires
     returns-2)
