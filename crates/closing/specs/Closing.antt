@@ -5,11 +5,12 @@ use mathlib.Core.Bool.{Bool, false, _||_}
 use mathlib.Core.List.{List}
 use Prim.Native.Nat.{ℕ, zero, suc, _+_, _^_, _≤_, _<_}
 use lib.Dec.{leb}
-use lib.IntN.{ℤ, pos, natAbs}
-use lib.ListN.{length, getD}
+use lib.IntN.{ℤ}
+use lib.ListN.{length}
 use Rattle.goods.specs.Sums.{sumTo}
 use Rattle.goods.specs.Goods.{poolOf, leftOf}
 use Rattle.goods.specs.Settling.{PROCESSES, SIZE, figures, pairs, Settleable}
+use Rattle.ledger.specs.Columns.{ROOMY, SizeAtMost, signedFigures}
 use Rattle.ledger.specs.Raising.{raisedToZero, gramsAdded}
 use Rattle.ledger.specs.declared.Ledger.{Ledger}
 use Rattle.closing.specs.declared.Closing.{Closing}
@@ -19,11 +20,7 @@ use Rattle.closing.specs.declared.Closing.{Closing}
 -- the array has the figure of each process 1 .. count at its number
 pub record Holds (count : ℕ) (figure : ℕ → ℕ) (a : List ℕ) : Type 0 where
   pub size : length a ≡ SIZE
-  pub at : (k : ℕ) → 1 ≤ k → k ≤ count → getD a k 0 ≡ figure k
-
--- attribution and bought grams, which go into the pool before any portion of own goods
-abbrev pub together : (attribution bought : List ℕ) → (k : ℕ) → ℕ
-together attribution bought k = getD attribution k 0 + getD bought k 0
+  pub at : (k : ℕ) → 1 ≤ k → k ≤ count → figures a k ≡ figure k
 
 -- the pools over own grams, what is left of each, and all that is left: as many grams as went in
 pub record Pooled (count : ℕ) (output : ℕ → ℕ) (kilos : ℕ → ℕ → ℕ) (own : ℕ → ℕ) (pools lefts : List ℕ) (left : ℕ) : Type 0 where
@@ -35,7 +32,7 @@ pub record Pooled (count : ℕ) (output : ℕ → ℕ) (kilos : ℕ → ℕ → 
 -- ---- one process
 
 abbrev pub balance : Ledger → (k : ℕ) → ℤ
-balance l k = getD (l .balances) k (pos 0)
+balance l k = signedFigures (l .balances .0) k
 
 -- direct attribution
 abbrev pub directOf : Ledger → (k : ℕ) → ℕ
@@ -43,24 +40,24 @@ directOf l k = raisedToZero (balance l k)
 
 -- indirect attribution
 abbrev pub indirectOf : Ledger → (k : ℕ) → ℕ
-indirectOf l k = getD (l .indirect) k 0
+indirectOf l k = figures (l .indirect .0) k
 
 abbrev pub raisedOf : Ledger → (k : ℕ) → ℕ
 raisedOf l k = gramsAdded (balance l k)
 
 -- attribution and bought grams
 abbrev pub ownDirect : Ledger → (k : ℕ) → ℕ
-ownDirect l k = directOf l k + getD (l .«bought_direct») k 0
+ownDirect l k = directOf l k + figures (l .«bought_direct» .0) k
 
 abbrev pub ownIndirect : Ledger → (k : ℕ) → ℕ
-ownIndirect l k = indirectOf l k + getD (l .«bought_indirect») k 0
+ownIndirect l k = indirectOf l k + figures (l .«bought_indirect» .0) k
 
 -- ---- the works
 
 -- what closing asks of the ledger, the outputs and the kilograms of own goods
 pub record Ready (l : Ledger) (outputs kilos : List ℕ) (count : ℕ) : Type 0 where
   pub few : count ≤ PROCESSES
-  pub balances : (k : ℕ) → natAbs (balance l k) ≤ 9200000000000000000
+  pub balances : SizeAtMost ROOMY (l .balances .0)
   pub direct : Settleable count (figures outputs) (pairs kilos) (ownDirect l)
   pub indirect : Settleable count (figures outputs) (pairs kilos) (ownIndirect l)
   pub own : sumTo count (ownDirect l) + sumTo count (ownIndirect l) < 2 ^ 63
@@ -81,13 +78,13 @@ module _ (l : Ledger) (outputs kilos : List ℕ) (count : ℕ) where
   indirectLeft k = leftOf count (figures outputs) (pairs kilos) (ownIndirect l) k
 
   pub record Closed (r : Closing) : Type 0 where
-    pub direct : Holds count (directOf l) (r .direct)
-    pub indirect : Holds count (indirectOf l) (r .indirect)
-    pub raised : Holds count (raisedOf l) (r .raised)
-    pub direct-pools : Holds count directPool (r .«direct_pools»)
-    pub indirect-pools : Holds count indirectPool (r .«indirect_pools»)
-    pub direct-lefts : Holds count directLeft (r .«direct_lefts»)
-    pub indirect-lefts : Holds count indirectLeft (r .«indirect_lefts»)
+    pub direct : Holds count (directOf l) (r .direct .0)
+    pub indirect : Holds count (indirectOf l) (r .indirect .0)
+    pub raised : Holds count (raisedOf l) (r .raised .0)
+    pub direct-pools : Holds count directPool (r .«direct_pools» .0)
+    pub indirect-pools : Holds count indirectPool (r .«indirect_pools» .0)
+    pub direct-lefts : Holds count directLeft (r .«direct_lefts» .0)
+    pub indirect-lefts : Holds count indirectLeft (r .«indirect_lefts» .0)
     pub left : r .left .0 ≡ sumTo count directLeft + sumTo count indirectLeft
     pub left-small : r .left .0 < 2 ^ 63
     pub total-raised : r .«total_raised» .0 ≡ sumTo count (raisedOf l)

@@ -4,7 +4,9 @@ ghost use lib.ListN.{length};
 ghost use Prim.Native.Nat.{_≤_, _<_};
 ghost use Rattle.goods.specs.Settling.{PROCESSES, SIZE, figures, pairs, Settleable, NoFigures};
 ghost use Rattle.closing.specs.Closing.{Pooled, Ready, Closed, anyLarge};
-use goods::PAIRS;
+use goods::GramsByProcess;
+use goods::KilosByPair;
+use goods::KilosByProcess;
 use goods::SIZE;
 use goods::settle;
 use ledger::Ledger;
@@ -19,14 +21,14 @@ const LIMIT: u64 = 9223372036854775808;
 // Grams of each process by its number, and the totals `left` and `raised` of the works.
 pub struct Closing {
     // attribution, and the grams that raised the balance to zero
-    pub direct: [u64; SIZE],
-    pub indirect: [u64; SIZE],
-    pub raised: [u64; SIZE],
+    pub direct: GramsByProcess,
+    pub indirect: GramsByProcess,
+    pub raised: GramsByProcess,
     // pools, and what is left of them
-    pub direct_pools: [u64; SIZE],
-    pub indirect_pools: [u64; SIZE],
-    pub direct_lefts: [u64; SIZE],
-    pub indirect_lefts: [u64; SIZE],
+    pub direct_pools: GramsByProcess,
+    pub indirect_pools: GramsByProcess,
+    pub direct_lefts: GramsByProcess,
+    pub indirect_lefts: GramsByProcess,
     pub left: Grams,
     pub total_raised: Grams,
 }
@@ -36,39 +38,50 @@ pub struct Closing {
 fn pools_from(
     pools: &mut [u64; SIZE],
     lefts: &mut [u64; SIZE],
-    outputs: &[u64; SIZE],
-    kilos: &[u64; PAIRS],
+    outputs: KilosByProcess,
+    kilos: &KilosByPair,
     count: usize,
 ) -> Grams
     requires { ⌜ count ≤ PROCESSES ⌝ }
-    requires { ⌜ Settleable count (figures (now outputs)) (pairs (now kilos)) (figures (now pools)) ⌝ }
+    requires { ⌜ Settleable count (figures (outputs .0)) (pairs (now kilos)) (figures (now pools)) ⌝ }
     requires { ⌜ (length (now pools) ≡ SIZE) × NoFigures (now lefts) ⌝ }
-    ensures { λ r. ⌜ Pooled count (figures (now (outputs .entry))) (pairs (now (kilos .entry))) (figures (now (pools .entry))) (now (pools .exit)) (now (lefts .exit)) (r .0) ⌝ }
+    ensures { λ r. ⌜ Pooled count (figures (outputs .0)) (pairs (now (kilos .entry))) (figures (now (pools .entry))) (now (pools .exit)) (now (lefts .exit)) (r .0) ⌝ }
 {
     settle(pools, lefts, outputs, kilos, count);
     total(lefts, count)
 }
 
 // Balances are raised to zero before anything bought or taken is added.
-pub fn close(l: Ledger, outputs: &[u64; SIZE], kilos: &[u64; PAIRS], count: usize) -> Closing
-    requires { ⌜ Ready l (now outputs) (now kilos) count ⌝ }
-    ensures { λ r. ⌜ Closed l (now (outputs .entry)) (now (kilos .entry)) count r ⌝ }
+pub fn close(l: Ledger, outputs: KilosByProcess, kilos: &KilosByPair, count: usize) -> Closing
+    requires { ⌜ Ready l (outputs .0) (now kilos) count ⌝ }
+    ensures { λ r. ⌜ Closed l (outputs .0) (now (kilos .entry)) count r ⌝ }
 {
-    let mut direct: [u64; SIZE] = [0; SIZE];
-    let mut raised: [u64; SIZE] = [0; SIZE];
-    raise_all(&mut direct, &mut raised, &l.balances, count);
-    let total_raised = total(&raised, count);
-    let mut direct_pools: [u64; SIZE] = [0; SIZE];
-    let mut direct_lefts: [u64; SIZE] = [0; SIZE];
-    add_all(&mut direct_pools, &direct, &l.bought_direct, count);
-    let direct_left = pools_from(&mut direct_pools, &mut direct_lefts, outputs, kilos, count);
+    let mut direct = GramsByProcess([0; SIZE]);
+    let mut raised = GramsByProcess([0; SIZE]);
+    raise_all(&mut direct.0, &mut raised.0, &l.balances.0, count);
+    let total_raised = total(&raised.0, count);
+    let mut direct_pools = GramsByProcess([0; SIZE]);
+    let mut direct_lefts = GramsByProcess([0; SIZE]);
+    add_all(&mut direct_pools.0, &direct.0, &l.bought_direct.0, count);
+    let direct_left = pools_from(
+        &mut direct_pools.0,
+        &mut direct_lefts.0,
+        outputs,
+        kilos,
+        count,
+    );
     let indirect = l.indirect;
-    let mut indirect_pools: [u64; SIZE] = [0; SIZE];
-    let mut indirect_lefts: [u64; SIZE] = [0; SIZE];
-    add_all(&mut indirect_pools, &indirect, &l.bought_indirect, count);
+    let mut indirect_pools = GramsByProcess([0; SIZE]);
+    let mut indirect_lefts = GramsByProcess([0; SIZE]);
+    add_all(
+        &mut indirect_pools.0,
+        &indirect.0,
+        &l.bought_indirect.0,
+        count,
+    );
     let indirect_left = pools_from(
-        &mut indirect_pools,
-        &mut indirect_lefts,
+        &mut indirect_pools.0,
+        &mut indirect_lefts.0,
         outputs,
         kilos,
         count,

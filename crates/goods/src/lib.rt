@@ -1,7 +1,7 @@
 // Document 01, "Goods and precursors": pools, portions and what is left. The definitions are in specs/.
 ghost use mathlib.Core.Path.{_≡_};
 ghost use Prim.Native.Nat.{_≤_};
-ghost use lib.ListN.{length, getD};
+ghost use lib.ListN.{length};
 ghost use Rattle.goods.specs.Settling.{PROCESSES, SIZE, figures, pairs, CanPassOn, PassedOn, Settleable, NoFigures, PoolsSettled};
 use quantity::Grams;
 use quantity::Kilos;
@@ -15,19 +15,29 @@ pub const SIZE: usize = PROCESSES + 1;
 // Kilograms from process i to process j stand at i * SIZE + j.
 pub const PAIRS: usize = SIZE * SIZE;
 
+// A figure of each process, at its number, by its unit.
+pub struct GramsByProcess(pub [u64; SIZE]);
+
+pub struct SignedGramsByProcess(pub [i64; SIZE]);
+
+pub struct KilosByProcess(pub [u64; SIZE]);
+
+// The kilograms of each pair of processes. No other array has so many places.
+pub type KilosByPair = [u64; PAIRS];
+
 // Process `from` passes portions of its pool on to its takers, by rising number; the result is what is left. In document 01's terms `taken` is
 // C(k−1) and `through` C(k), `given` is ⌊P × C(k−1)/A⌋ and `next` ⌊P × C(k)/A⌋.
 fn pass_on(
     pools: &mut [u64; SIZE],
     output: Kilos,
-    kilos: &[u64; PAIRS],
+    kilos: &KilosByPair,
     from: usize,
     count: usize,
 ) -> Grams
     requires { ⌜ (from ≤ count) × (count ≤ PROCESSES) ⌝ }
     requires { ⌜ length (now pools) ≡ SIZE ⌝ }
     requires { ⌜ CanPassOn count from (output .0) (pairs (now kilos) from) (now pools) ⌝ }
-    ensures { λ r. ⌜ PassedOn count (getD (now (pools .entry)) from 0) (output .0) (pairs (now (kilos .entry)) from) (now (pools .entry)) (now (pools .exit)) (r .0) ⌝ }
+    ensures { λ r. ⌜ PassedOn count (figures (now (pools .entry)) from) (output .0) (pairs (now (kilos .entry)) from) (now (pools .entry)) (now (pools .exit)) (r .0) ⌝ }
 {
     let pool = pools[from];
     let parts = parted(Grams(pool), output);
@@ -55,18 +65,18 @@ fn pass_on(
 pub fn settle(
     pools: &mut [u64; SIZE],
     lefts: &mut [u64; SIZE],
-    outputs: &[u64; SIZE],
-    kilos: &[u64; PAIRS],
+    outputs: KilosByProcess,
+    kilos: &KilosByPair,
     count: usize,
 )
     requires { ⌜ count ≤ PROCESSES ⌝ }
-    requires { ⌜ Settleable count (figures (now outputs)) (pairs (now kilos)) (figures (now pools)) ⌝ }
+    requires { ⌜ Settleable count (figures (outputs .0)) (pairs (now kilos)) (figures (now pools)) ⌝ }
     requires { ⌜ (length (now pools) ≡ SIZE) × NoFigures (now lefts) ⌝ }
-    ensures { λ r. ⌜ PoolsSettled SIZE count (figures (now (outputs .entry))) (pairs (now (kilos .entry))) (figures (now (pools .entry))) (now (pools .exit)) (now (lefts .exit)) ⌝ }
+    ensures { λ r. ⌜ PoolsSettled SIZE count (figures (outputs .0)) (pairs (now (kilos .entry))) (figures (now (pools .entry))) (now (pools .exit)) (now (lefts .exit)) ⌝ }
 {
     let mut i = 1;
     while i <= count {
-        let output = outputs[i];
+        let output = outputs.0[i];
         let left = pass_on(pools, Kilos(output), kilos, i, count);
         lefts[i] = left.0;
         i += 1;

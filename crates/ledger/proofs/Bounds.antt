@@ -82,10 +82,10 @@ pub within-booked : (k : ℕ) (l : Ledger) (e : Entry) → Within k l → Small 
 unfolding booked
 within-booked k l e w s = record {
   balances = λ i.
-      omega (arith, each-credited k (l .balances) (w .balances) (e .charged) (e .charge .0) (e .credited) (e .credit .0) i, s .moved);
-  indirect = each-added k STEP (l .indirect) (e .user) (e .power .0) (omega (arith, s .into)) (w .indirect);
-  bought-direct = each-added k STEP (l .«bought_direct») (e .buyer) (e .direct .0) (omega (arith, s .into)) (w .bought-direct);
-  bought-indirect = each-added k STEP (l .«bought_indirect») (e .buyer) (e .indirect .0) (omega (arith, s .into)) (w .bought-indirect);
+      omega (arith, each-credited k (l .balances .0) (w .balances) (e .charged) (e .charge .0) (e .credited) (e .credit .0) i, s .moved);
+  indirect = each-added k STEP (l .indirect .0) (e .user) (e .power .0) (omega (arith, s .into)) (w .indirect);
+  bought-direct = each-added k STEP (l .«bought_direct» .0) (e .buyer) (e .direct .0) (omega (arith, s .into)) (w .bought-direct);
+  bought-indirect = each-added k STEP (l .«bought_indirect» .0) (e .buyer) (e .indirect .0) (omega (arith, s .into)) (w .bought-indirect);
   entered =
       omega (arith, size-moved STEP (l .totals .entered .0) (e .entering .0) (e .leaving .0) (s .entering) (s .leaving), w .entered);
   uncredited = omega (arith, w .uncredited, s .lost);

@@ -37,23 +37,23 @@ place-balance b charged charge credited credit i h g =
 
 module _ (l : Ledger) (e : Entry) (s : Sized l) (m : Small e) (i : ℕ) where
   -- charged and credited may be one place
-  pub balance-booked : getD (booked l e .balances) i (pos 0)
-      ≡ getD (l .balances) i (pos 0) +ℤ pos (onlyAt i (e .charged) (e .charge .0)) -ℤ pos (onlyAt i (e .credited) (e .credit .0))
+  pub balance-booked : getD (booked l e .balances .0) i (pos 0)
+      ≡ getD (l .balances .0) i (pos 0) +ℤ pos (onlyAt i (e .charged) (e .charge .0)) -ℤ pos (onlyAt i (e .credited) (e .credit .0))
   unfolding booked
   balance-booked =
-      place-balance (l .balances) (e .charged) (e .charge .0) (e .credited) (e .credit .0) i
+      place-balance (l .balances .0) (e .charged) (e .charge .0) (e .credited) (e .credit .0) i
       (rw (s .balances) (m .charged-in)) (rw (s .balances) (m .credited-in))
 
-  pub indirect-booked : getD (booked l e .indirect) i 0 ≡ getD (l .indirect) i 0 + onlyAt i (e .user) (e .power .0)
+  pub indirect-booked : getD (booked l e .indirect .0) i 0 ≡ getD (l .indirect .0) i 0 + onlyAt i (e .user) (e .power .0)
   unfolding booked
-  indirect-booked = place-added (l .indirect) (e .user) (e .power .0) i (rw (s .indirect) (m .user-in))
+  indirect-booked = place-added (l .indirect .0) (e .user) (e .power .0) i (rw (s .indirect) (m .user-in))
 
-  pub bought-direct-booked : getD (booked l e .«bought_direct») i 0
-      ≡ getD (l .«bought_direct») i 0 + onlyAt i (e .buyer) (e .direct .0)
+  pub bought-direct-booked : getD (booked l e .«bought_direct» .0) i 0
+      ≡ getD (l .«bought_direct» .0) i 0 + onlyAt i (e .buyer) (e .direct .0)
   unfolding booked
-  bought-direct-booked = place-added (l .«bought_direct») (e .buyer) (e .direct .0) i (rw (s .bought-direct) (m .buyer-in))
+  bought-direct-booked = place-added (l .«bought_direct» .0) (e .buyer) (e .direct .0) i (rw (s .bought-direct) (m .buyer-in))
 
-  pub bought-indirect-booked : getD (booked l e .«bought_indirect») i 0
-      ≡ getD (l .«bought_indirect») i 0 + onlyAt i (e .buyer) (e .indirect .0)
+  pub bought-indirect-booked : getD (booked l e .«bought_indirect» .0) i 0
+      ≡ getD (l .«bought_indirect» .0) i 0 + onlyAt i (e .buyer) (e .indirect .0)
   unfolding booked
-  bought-indirect-booked = place-added (l .«bought_indirect») (e .buyer) (e .indirect .0) i (rw (s .bought-indirect) (m .buyer-in))
+  bought-indirect-booked = place-added (l .«bought_indirect» .0) (e .buyer) (e .indirect .0) i (rw (s .bought-indirect) (m .buyer-in))

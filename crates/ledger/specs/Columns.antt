@@ -1,7 +1,8 @@
 -- A figure of each process, by its number.
 use mathlib.Core.Path.{_≡_}
 use mathlib.Core.List.{List}
-use Prim.Native.Nat.{ℕ, _≤_, _<_}
+use Prim.Native.Nat.{ℕ, _+_, _^_, _≤_, _<_}
+use lib.IntN.{ℤ, pos, natAbs}
 use lib.ListN.{length, getD}
 use Rattle.goods.specs.Settling.{SIZE}
 
@@ -11,3 +12,29 @@ pub record Column (count : ℕ) (figure : ℕ → ℕ) (a : List ℕ) : Type 0 w
   pub at : (k : ℕ) → 1 ≤ k → k ≤ count → getD a k 0 ≡ figure k
   pub outside : getD a 0 0 ≡ 0
   pub beyond : (k : ℕ) → count < k → getD a k 0 ≡ 0
+
+-- the signed figure of process k
+abbrev pub signedFigures : List ℤ → (k : ℕ) → ℤ
+signedFigures l k = getD l k (pos 0)
+
+-- every figure of a column is at most so much, its sign aside
+abbrev pub AtMost : (most : ℕ) → List ℕ → Type 0
+AtMost most l = (k : ℕ) → getD l k 0 ≤ most
+
+abbrev pub SizeAtMost : (most : ℕ) → List ℤ → Type 0
+SizeAtMost most l = (k : ℕ) → natAbs (getD l k (pos 0)) ≤ most
+
+-- with one entry more a figure of this size stays below 2^63
+abbrev pub ROOMY : ℕ
+ROOMY = 9200000000000000000
+
+-- an amount can be added in one place
+abbrev pub RoomAt : List ℕ → (k amount : ℕ) → Type 0
+RoomAt l k amount = (k < SIZE) × (getD l k 0 + amount < 2 ^ 64)
+
+-- two figures of process k together, and that they fit
+abbrev pub together : (a b : List ℕ) → (k : ℕ) → ℕ
+together a b k = getD a k 0 + getD b k 0
+
+abbrev pub FitTogether : (count : ℕ) → (a b : List ℕ) → Type 0
+FitTogether count a b = (k : ℕ) → 1 ≤ k → k ≤ count → together a b k < 2 ^ 64

@@ -8,20 +8,11 @@ use Rattle.goods.specs.Settling.{SIZE}
 use Rattle.ledger.specs.declared.Entry.{Entry}
 use Rattle.ledger.specs.declared.Ledger.{Ledger}
 use Rattle.ledger.specs.declared.Totals.{Totals}
+use Rattle.ledger.specs.Columns.{AtMost, SizeAtMost, ROOMY}
 
 -- the most grams that one line adds to the figures
 abbrev pub STEP : ℕ
 STEP = 2000000000000000
-
--- its columns and totals
-abbrev pub ledgerOf : (balances : List ℤ) → (indirect boughtDirect boughtIndirect : List ℕ) → Totals → Ledger
-ledgerOf balances indirect boughtDirect boughtIndirect totals = record {
-  balances = balances;
-  indirect = indirect;
-  «bought_direct» = boughtDirect;
-  «bought_indirect» = boughtIndirect;
-  totals = totals;
-}
 
 -- an amount added in one place
 abbrev pub added : List ℕ → (i amount : ℕ) → List ℕ
@@ -35,10 +26,10 @@ chargedAndCredited b charged charge credited credit =
 
 unfoldable pub booked : Ledger → Entry → Ledger
 booked l e = record {
-  balances = chargedAndCredited (l .balances) (e .charged) (e .charge .0) (e .credited) (e .credit .0);
-  indirect = added (l .indirect) (e .user) (e .power .0);
-  «bought_direct» = added (l .«bought_direct») (e .buyer) (e .direct .0);
-  «bought_indirect» = added (l .«bought_indirect») (e .buyer) (e .indirect .0);
+  balances = record { 0 = chargedAndCredited (l .balances .0) (e .charged) (e .charge .0) (e .credited) (e .credit .0) };
+  indirect = record { 0 = added (l .indirect .0) (e .user) (e .power .0) };
+  «bought_direct» = record { 0 = added (l .«bought_direct» .0) (e .buyer) (e .direct .0) };
+  «bought_indirect» = record { 0 = added (l .«bought_indirect» .0) (e .buyer) (e .indirect .0) };
   totals = record {
     entered = record { 0 = l .totals .entered .0 +ℤ pos (e .entering .0) -ℤ pos (e .leaving .0) };
     uncredited = record { 0 = l .totals .uncredited .0 + e .lost .0 };
@@ -50,10 +41,10 @@ nothingMoved = record { entered = record { 0 = pos 0 }; uncredited = record { 0 
 
 unfoldable pub start : Ledger
 start = record {
-  balances = replicate SIZE (pos 0);
-  indirect = replicate SIZE 0;
-  «bought_direct» = replicate SIZE 0;
-  «bought_indirect» = replicate SIZE 0;
+  balances = record { 0 = replicate SIZE (pos 0) };
+  indirect = record { 0 = replicate SIZE 0 };
+  «bought_direct» = record { 0 = replicate SIZE 0 };
+  «bought_indirect» = record { 0 = replicate SIZE 0 };
   totals = nothingMoved;
 }
 
@@ -73,20 +64,20 @@ pub record Small (e : Entry) : Type 0 where
 
 -- every figure is at most k in size
 pub record Within (k : ℕ) (l : Ledger) : Type 0 where
-  pub balances : (i : ℕ) → natAbs (getD (l .balances) i (pos 0)) ≤ k
-  pub indirect : (i : ℕ) → getD (l .indirect) i 0 ≤ k
-  pub bought-direct : (i : ℕ) → getD (l .«bought_direct») i 0 ≤ k
-  pub bought-indirect : (i : ℕ) → getD (l .«bought_indirect») i 0 ≤ k
+  pub balances : SizeAtMost k (l .balances .0)
+  pub indirect : AtMost k (l .indirect .0)
+  pub bought-direct : AtMost k (l .«bought_direct» .0)
+  pub bought-indirect : AtMost k (l .«bought_indirect» .0)
   pub entered : natAbs (l .totals .entered .0) ≤ k
   pub uncredited : l .totals .uncredited .0 ≤ k
 
 -- there is room for one entry more: all figures stay below 2^63
 abbrev pub Room : Ledger → Type 0
-Room l = Within 9200000000000000000 l
+Room l = Within ROOMY l
 
 -- every array has all its places
 pub record Sized (l : Ledger) : Type 0 where
-  pub balances : length (l .balances) ≡ SIZE
-  pub indirect : length (l .indirect) ≡ SIZE
-  pub bought-direct : length (l .«bought_direct») ≡ SIZE
-  pub bought-indirect : length (l .«bought_indirect») ≡ SIZE
+  pub balances : length (l .balances .0) ≡ SIZE
+  pub indirect : length (l .indirect .0) ≡ SIZE
+  pub bought-direct : length (l .«bought_direct» .0) ≡ SIZE
+  pub bought-indirect : length (l .«bought_indirect» .0) ≡ SIZE

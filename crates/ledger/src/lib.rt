@@ -1,14 +1,15 @@
 // The figures of a works while its lines are read: document 01, "Attribution". Each line is booked as one entry.
 ghost use mathlib.Core.Path.{_≡_};
 ghost use lib.IntN.{pos, natAbs, _+ℤ_, _-ℤ_};
-ghost use Prim.Native.Nat.{ℕ, _+_, _^_, _≤_, _<_};
-ghost use lib.ListN.{getD};
+ghost use Prim.Native.Nat.{_+_, _^_, _≤_, _<_};
 ghost use Rattle.goods.specs.Sums.{sumTo};
-ghost use Rattle.goods.specs.Settling.{SIZE, NoFigures};
-ghost use Rattle.ledger.specs.Ledger.{STEP, Room, Small, ledgerOf, chargedAndCredited, booked};
+ghost use Rattle.goods.specs.Settling.{SIZE, NoFigures, figures};
+ghost use Rattle.ledger.specs.Ledger.{STEP, Small, added, chargedAndCredited};
 ghost use Rattle.ledger.specs.Raising.{gramsAdded, raisedToZero};
-ghost use Rattle.ledger.specs.Columns.{Column};
+ghost use Rattle.ledger.specs.Columns.{Column, ROOMY, SizeAtMost, RoomAt, FitTogether, signedFigures, together};
+use goods::GramsByProcess;
 use goods::SIZE;
+use goods::SignedGramsByProcess;
 use quantity::Grams;
 use quantity::SignedGrams;
 
@@ -40,10 +41,10 @@ pub struct Totals {
 
 // The grams of each process by its number, and those of the whole works.
 pub struct Ledger {
-    pub balances: [i64; SIZE],
-    pub indirect: [u64; SIZE],
-    pub bought_direct: [u64; SIZE],
-    pub bought_indirect: [u64; SIZE],
+    pub balances: SignedGramsByProcess,
+    pub indirect: GramsByProcess,
+    pub bought_direct: GramsByProcess,
+    pub bought_indirect: GramsByProcess,
     pub totals: Totals,
 }
 
@@ -60,8 +61,8 @@ fn changed(held: SignedGrams, more: Grams, less: Grams) -> SignedGrams
 }
 
 // The balances with the charge added and the credit taken off.
-fn charge(balances: &mut [i64; SIZE], e: Entry)
-    requires { ⌜ ((k : ℕ) → natAbs (getD (now balances) k (pos 0)) ≤ 9200000000000000000) ⌝ }
+pub fn charge(balances: &mut [i64; SIZE], e: Entry)
+    requires { ⌜ SizeAtMost ROOMY (now balances) ⌝ }
     requires { ⌜ Small e ⌝ }
     ensures { λ r. ⌜ now (balances .exit) ≡ chargedAndCredited (now (balances .entry)) (e .charged) (e .charge .0) (e .credited) (e .credit .0) ⌝ }
 {
@@ -80,32 +81,24 @@ fn charge(balances: &mut [i64; SIZE], e: Entry)
     balances[from] = less;
 }
 
-// The entry booked in the lent columns of the ledger; the result is the totals after it.
-pub fn book(
-    balances: &mut [i64; SIZE],
-    indirect: &mut [u64; SIZE],
-    bought_direct: &mut [u64; SIZE],
-    bought_indirect: &mut [u64; SIZE],
-    t: Totals,
-    e: Entry,
-) -> Totals
-    requires { ⌜ Room (ledgerOf (now balances) (now indirect) (now «bought_direct») (now «bought_indirect») t) ⌝ }
-    requires { ⌜ Small e ⌝ }
-    ensures { λ r. ⌜ ledgerOf (now (balances .exit)) (now (indirect .exit)) (now («bought_direct» .exit)) (now («bought_indirect» .exit)) r ≡ booked (ledgerOf (now (balances .entry)) (now (indirect .entry)) (now («bought_direct» .entry)) (now («bought_indirect» .entry)) t) e ⌝ }
+// Grams added in the place of a process, in one lent column of the ledger.
+pub fn add(column: &mut [u64; SIZE], at: usize, grams: Grams)
+    requires { ⌜ RoomAt (now column) at (grams .0) ⌝ }
+    ensures { λ r. ⌜ now (column .exit) ≡ added (now (column .entry)) at (grams .0) ⌝ }
 {
-    charge(balances, e);
-    let user = e.user;
-    let buyer = e.buyer;
-    indirect[user] += e.power.0;
-    bought_direct[buyer] += e.direct.0;
-    bought_indirect[buyer] += e.indirect.0;
-    let held = t.entered;
-    let entered = changed(held, e.entering, e.leaving);
-    let uncredited = t.uncredited.0 + e.lost.0;
-    Totals {
-        entered: entered,
-        uncredited: Grams(uncredited),
-    }
+    column[at] += grams.0;
+}
+
+// What entered the works, with what the entry lets in and out.
+pub fn enter(entered: &mut i64, e: Entry)
+    requires { ⌜ natAbs (now entered) ≤ ROOMY ⌝ }
+    requires { ⌜ Small e ⌝ }
+    ensures { λ r. ⌜ now (entered .exit) ≡ now (entered .entry) +ℤ pos (e .entering .0) -ℤ pos (e .leaving .0) ⌝ }
+{
+    let held = *entered;
+    let after = changed(SignedGrams(held), e.entering, e.leaving);
+    let grams = after.0;
+    *entered = grams;
 }
 
 // A balance raised to zero where it is below: the outcome, and the grams added.
@@ -115,7 +108,7 @@ pub struct Raised {
 }
 
 pub fn raise(balance: SignedGrams) -> Raised
-    requires { ⌜ natAbs (balance .0) ≤ 9200000000000000000 ⌝ }
+    requires { ⌜ natAbs (balance .0) ≤ ROOMY ⌝ }
     ensures direct { λ r. ⌜ r .direct .0 ≡ raisedToZero (balance .0) ⌝ }
     ensures raised { λ r. ⌜ r .raised .0 ≡ gramsAdded (balance .0) ⌝ }
 {
@@ -140,10 +133,10 @@ pub fn raise_all(
     count: usize,
 )
     requires { ⌜ count < SIZE ⌝ }
-    requires { ⌜ ((k : ℕ) → natAbs (getD (now balances) k (pos 0)) ≤ 9200000000000000000) ⌝ }
+    requires { ⌜ SizeAtMost ROOMY (now balances) ⌝ }
     requires { ⌜ NoFigures (now direct) × NoFigures (now raised) ⌝ }
-    ensures direct { λ r. ⌜ Column count (λ k. raisedToZero (getD (now (balances .entry)) k (pos 0))) (now (direct .exit)) ⌝ }
-    ensures raised { λ r. ⌜ Column count (λ k. gramsAdded (getD (now (balances .entry)) k (pos 0))) (now (raised .exit)) ⌝ }
+    ensures direct { λ r. ⌜ Column count (λ k. raisedToZero (signedFigures (now (balances .entry)) k)) (now (direct .exit)) ⌝ }
+    ensures raised { λ r. ⌜ Column count (λ k. gramsAdded (signedFigures (now (balances .entry)) k)) (now (raised .exit)) ⌝ }
 {
     let mut done: usize = 0;
     while done < count {
@@ -159,9 +152,9 @@ pub fn raise_all(
 // Two figures of each process together, in `both`, which holds zeros at entry.
 pub fn add_all(both: &mut [u64; SIZE], a: &[u64; SIZE], b: &[u64; SIZE], count: usize)
     requires { ⌜ count < SIZE ⌝ }
-    requires { ⌜ ((k : ℕ) → 1 ≤ k → k ≤ count → getD (now a) k 0 + getD (now b) k 0 < 2 ^ 64) ⌝ }
+    requires { ⌜ FitTogether count (now a) (now b) ⌝ }
     requires { ⌜ NoFigures (now both) ⌝ }
-    ensures { λ r. ⌜ Column count (λ k. getD (now (a .entry)) k 0 + getD (now (b .entry)) k 0) (now (both .exit)) ⌝ }
+    ensures { λ r. ⌜ Column count (together (now (a .entry)) (now (b .entry))) (now (both .exit)) ⌝ }
 {
     let mut done: usize = 0;
     while done < count {
@@ -174,8 +167,8 @@ pub fn add_all(both: &mut [u64; SIZE], a: &[u64; SIZE], b: &[u64; SIZE], count: 
 // The figures of all processes together.
 pub fn total(a: &[u64; SIZE], count: usize) -> Grams
     requires { ⌜ count < SIZE ⌝ }
-    requires { ⌜ sumTo count (λ k. getD (now a) k 0) < 2 ^ 63 ⌝ }
-    ensures { λ r. ⌜ r .0 ≡ sumTo count (λ k. getD (now (a .entry)) k 0) ⌝ }
+    requires { ⌜ sumTo count (figures (now a)) < 2 ^ 63 ⌝ }
+    ensures { λ r. ⌜ r .0 ≡ sumTo count (figures (now (a .entry))) ⌝ }
 {
     let mut sum: u64 = 0;
     let mut done: usize = 0;

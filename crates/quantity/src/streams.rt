@@ -1,6 +1,7 @@
 // Document 01, "Source streams": the four methods, each step rounded.
 use crate::Grams;
 use crate::Kilos;
+use crate::Megajoules;
 use crate::SignedGrams;
 ghost use mathlib.Core.Path.{_≡_};
 ghost use Prim.Native.Nat.{_≤_};
@@ -24,9 +25,9 @@ pub fn combustion(mass: Kilos, a: u64, b: u64, c: u64, d: u64) -> Grams
     ensures { λ r. ⌜ r .0 ≡ combustionGrams (mass .0) a b c d ⌝ }
     ensures bounded { λ r. ⌜ r .0 ≤ 1000000000000000 ⌝ }
 {
-    let t1 = crate::round_thousandths(mass.0, a);
-    let t2 = crate::round_thousandths(t1, b);
-    fossil(Grams(t2), c, d)
+    let t1 = Megajoules(crate::round_thousandths(mass.0, a));
+    let t2 = Grams(crate::round_thousandths(t1.0, b));
+    fossil(t2, c, d)
 }
 
 // Method 2, process emission: T1 in g, then c and d.

@@ -20,14 +20,15 @@ use Rattle.ledger.specs.Ledger.{Small}
 use Rattle.quantity.specs.Limits.{limits}
 use Rattle.sheet.specs.Refusals.{sumOf}
 use Rattle.sheet.specs.Verdict.{Check, accepted, refused, firstOf, lineChecks, linesChecks}
-use Rattle.judge.specs.Code.{shapeNumber, fieldsNumber, lineNumber}
+use Rattle.judge.specs.Code.{shapeNumber, fieldsNumber, lineNumber, readNumber}
+use Rattle.judge.specs.declared.order.Above.{Above}
 use Rattle.sheet.proofs.First.{accepted-passes}
 use Rattle.sheet.proofs.Passed.{line-fine}
 use Rattle.sheet.proofs.Held.{GoodAsked}
 use Rattle.judge.proofs.LineNumber.{given, line-accepted, line-refused, read-number}
 use Rattle.entries.specs.Entries.{entry}
 use Rattle.entries.specs.Read.{recordRead, Shaped}
-use Rattle.works.specs.Works.{worksAtStart, worksAfter, kilosAfter, ofProcess, ofPair}
+use Rattle.works.specs.Works.{worksAtStart, worksAfter, kilosAfter, aboveOf}
 use Rattle.reckoner.specs.Gathered.{NoKilos}
 use Rattle.works.specs.declared.Works.{Works}
 use Rattle.reckoner.proofs.HeldLedger.{held-start}
@@ -77,32 +78,27 @@ reading-start sheet kilos e = record {
 
 module _ (sheet : List ℕ) (at : ℕ) (w : Works) (kilos : List ℕ) (rd : Reading sheet at w kilos) (more : at < length sheet)
     (l : LineRead) (read : ReadAt sheet at l) where
-  abbrev output : ℕ
-  output = ofProcess (w .outputs) (getD (l .words) 0 0)
+  -- what the lines above say of this line
+  abbrev said : Above
+  said = aboveOf w kilos l
 
-  abbrev taken : ℕ
-  taken = ofProcess (w .taken) (getD (l .words) 0 0)
-
-  abbrev pair : ℕ
-  pair = ofPair kilos (getD (l .words) 0 0) (getD (l .words) 1 0)
-
-  -- what line_refusal gives
+  -- rows 2 to 13 of it
   abbrev pub lineGiven : ℕ
-  lineGiven = lineNumber limits (l .kind) (l .count) (l .words) (not (eqb (l .end) (length sheet))) (w .lines) (w .count) output taken pair
+  lineGiven = readNumber limits l (length sheet) said
 
-  given-is : lineGiven ≡ given limits (rd .above) (lineAt sheet at) (w .count) output taken pair
-  given-is = rw (rd .standing .lines) (read-number limits sheet at l (omega arith) read (rd .above) (w .count) output taken pair)
+  given-is : lineGiven ≡ given limits (rd .above) (lineAt sheet at) (w .count) (said .output .0) (said .taken .0) (said .pair .0)
+  given-is = rw (rd .standing .lines) (read-number limits sheet at l (omega arith) read (rd .above) (w .count) (said .output .0) (said .taken .0) (said .pair .0))
 
   -- what the code holds of a G line's processes
-  goods-held : GoodAsked (rd .above) (recordOf (lineAt sheet at) .kind) (getD (words (recordOf (lineAt sheet at) .said)) 0 0) (getD (words (recordOf (lineAt sheet at) .said)) 1 0) (w .count) output taken pair
+  goods-held : GoodAsked (rd .above) (recordOf (lineAt sheet at) .kind) (getD (words (recordOf (lineAt sheet at) .said)) 0 0) (getD (words (recordOf (lineAt sheet at) .said)) 1 0) (w .count) (said .output .0) (said .taken .0) (said .pair .0)
   goods-held = rw (← read .words) (λ e low rising known.
       let most = rd .standing .held .most in
-      simp (lt-ltb (getD (l .words) 0 0) SIZE (omega arith), lt-ltb (getD (l .words) 1 0) SIZE (omega arith))
+      simp (eq-eqb (letter (l .kind)) (letter OwnGood) (ap letter (read .kind ∙ e)), lt-ltb (getD (l .words) 0 0) SIZE (omega arith), lt-ltb (getD (l .words) 1 0) SIZE (omega arith))
       (good-held (rd .above) w kilos (rd .standing) (recordOf (lineAt sheet at) .kind) (getD (l .words) 0 0) (getD (l .words) 1 0) e low rising known))
 
   pub accepted-here : lineGiven ≡ 0 → firstOf (lineChecks limits (rd .above) (lineAt sheet at)) ≡ accepted
   accepted-here z =
-      line-accepted limits (omega arith) (rd .above) (lineAt sheet at) (w .count) output taken pair (rd .standing .held)
+      line-accepted limits (omega arith) (rd .above) (lineAt sheet at) (w .count) (said .output .0) (said .taken .0) (said .pair .0) (rd .standing .held)
       (λ e. goods-held) (sym given-is ∙ z)
 
   -- the lines from here on
@@ -113,7 +109,7 @@ module _ (sheet : List ℕ) (at : ℕ) (w : Works) (kilos : List ℕ) (rd : Read
 
   refused-line : (lineGiven ≡ 0 → ⊥) → firstOf (lineChecks limits (rd .above) (lineAt sheet at)) ≡ refused lineGiven (w .lines + 1)
   refused-line n =
-      line-refused limits (omega arith) (rd .above) (lineAt sheet at) (w .count) output taken pair (rd .standing .held) (λ e. goods-held) (λ z. n (given-is ∙ z))
+      line-refused limits (omega arith) (rd .above) (lineAt sheet at) (w .count) (said .output .0) (said .taken .0) (said .pair .0) (rd .standing .held) (λ e. goods-held) (λ z. n (given-is ∙ z))
       ∙ ap₂ refused (sym given-is) (let e : suc (length (rd .above)) ≡ w .lines + 1 = omega (arith, rd .standing .lines) in e)
 
   pub refused-here : (lineGiven ≡ 0 → ⊥) → firstOf (linesChecks limits [] (linesOf sheet)) ≡ refused lineGiven (w .lines + 1)

@@ -100,7 +100,7 @@ module _ (sheet : List ℕ) where
           by-lines short some ∙ first-rest (linesChecks limits [] (linesOf sheet)) last (of .passed zero)
           ∙ rw (no-figure-too-large (recordsOf sheet) ok (read .works) kilos (of .gathered zero))
 
-      module _ (c : Closing) (closed : Closed (read .works .ledger) (read .works .outputs) kilos (read .works .count) c) where
+      module _ (c : Closing) (closed : Closed (read .works .ledger) (read .works .outputs .0) kilos (read .works .count) c) where
         figured : FiguresOf (recordsOf sheet) (acceptedAs (read .works) c)
         figured = figures-is (recordsOf sheet) (read .works) kilos (of .gathered zero) ok c closed
 

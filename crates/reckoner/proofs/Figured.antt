@@ -22,22 +22,22 @@ use Rattle.attribution.proofs.Valid.{Accepted}
 use Rattle.reckoner.proofs.Ready.{own-direct-is, own-indirect-is, raised-is, pairs-is, raised-sum}
 
 module _ (rs : List Record) (w : Works) (kilos : List ℕ) (g : Gathered rs w kilos) (ok : Accepted rs) (c : Closing)
-    (closed : Closed (w .ledger) (w .outputs) kilos (w .count) c) where
+    (closed : Closed (w .ledger) (w .outputs .0) kilos (w .count) c) where
   column : {figure other : ℕ → ℕ} {a : List ℕ} → Holds (w .count) figure a → ((k : ℕ) → 1 ≤ k → k ≤ w .count → figure k ≡ other k) → Column (w .count) other a
   column h same = record { size = h .size; at = λ k l m. h .at k l m ∙ same k l m }
 
   -- pools and lefts over the code's arrays are those over document 01's figures
   pool-same : (own own′ : ℕ → ℕ) → ((k : ℕ) → own k ≡ own′ k) → (k : ℕ) → k ≤ w .count
-      → poolOf (w .count) (figures (w .outputs)) (pairs kilos) own k ≡ poolOf (processCount rs) (output rs) (kilosBetween rs) own′ k
+      → poolOf (w .count) (figures (w .outputs .0)) (pairs kilos) own k ≡ poolOf (processCount rs) (output rs) (kilosBetween rs) own′ k
   pool-same own own′ e k h =
-      pool-cong (w .count) (figures (w .outputs)) (output rs) (pairs kilos) (kilosBetween rs) own own′
+      pool-cong (w .count) (figures (w .outputs .0)) (output rs) (pairs kilos) (kilosBetween rs) own own′
       (λ i a b. g .output-at i) (λ i j a b p q. pairs-is rs w kilos g ok i j q) (λ i a b. e i) k h
       ∙ ap (λ (m : ℕ). poolOf m (output rs) (kilosBetween rs) own′ k) (g .count)
 
   left-same : (own own′ : ℕ → ℕ) → ((k : ℕ) → own k ≡ own′ k) → (k : ℕ) → 1 ≤ k → k ≤ w .count
-      → leftOf (w .count) (figures (w .outputs)) (pairs kilos) own k ≡ leftOf (processCount rs) (output rs) (kilosBetween rs) own′ k
+      → leftOf (w .count) (figures (w .outputs .0)) (pairs kilos) own k ≡ leftOf (processCount rs) (output rs) (kilosBetween rs) own′ k
   left-same own own′ e k l h =
-      left-cong (w .count) (figures (w .outputs)) (output rs) (pairs kilos) (kilosBetween rs) own own′
+      left-cong (w .count) (figures (w .outputs .0)) (output rs) (pairs kilos) (kilosBetween rs) own own′
       (λ i a b. g .output-at i) (λ i j a b p q. pairs-is rs w kilos g ok i j q) (λ i a b. e i) k l h
       ∙ ap (λ (m : ℕ). leftOf m (output rs) (kilosBetween rs) own′ k) (g .count)
 
@@ -65,5 +65,5 @@ module _ (rs : List Record) (w : Works) (kilos : List ℕ) (g : Gathered rs w ki
     entered-small = omega (arith, g .room .entered);
   }
     where
-      outputs-size : length (w .outputs) ≡ SIZE
+      outputs-size : length (w .outputs .0) ≡ SIZE
       outputs-size = g .outputs-size

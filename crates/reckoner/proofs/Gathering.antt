@@ -40,8 +40,8 @@ module _ (sheet : List ℕ) (at : ℕ) (w : Works) (kilos : List ℕ) (rd : Read
   ledger : HeldLedger (recordsOf sheet) (w .ledger)
   ledger = ledger-same (rd .above) (recordsOf sheet) same (w .ledger) (rd .standing .ledger)
 
-  goods : HeldGoods (recordsOf sheet) (w .count) (w .outputs) (w .taken) kilos
-  goods = goods-same (rd .above) (recordsOf sheet) same (w .count) (w .outputs) (w .taken) kilos (rd .standing .goods)
+  goods : HeldGoods (recordsOf sheet) (w .count) (w .outputs .0) (w .taken .0) kilos
+  goods = goods-same (rd .above) (recordsOf sheet) same (w .count) (w .outputs .0) (w .taken .0) kilos (rd .standing .goods)
 
   made : (i : ℕ) → 1 ≤ i → i ≤ w .count → 1 ≤ sumOf (outputIn i) (recordsOf sheet)
   made i one last =

@@ -21,10 +21,10 @@ use Rattle.attribution.proofs.Bounds.{intoProcesses, outOfProcesses}
 -- the figures are the sums over the entries of the lines above, and each line added at most STEP to each
 pub record HeldLedger (above : List Record) (l : Ledger) : Type 0 where
   pub sized : Sized l
-  pub balances : (i : ℕ) → getD (l .balances) i (pos 0) ≡ diff (sumOf (plus i) above) (sumOf (minus i) above)
-  pub indirect : (i : ℕ) → getD (l .indirect) i 0 ≡ sumOf (λ r. onlyAt i (entry r .user) (entry r .power .0)) above
-  pub bought-direct : (i : ℕ) → getD (l .«bought_direct») i 0 ≡ sumOf (λ r. onlyAt i (entry r .buyer) (entry r .direct .0)) above
-  pub bought-indirect : (i : ℕ) → getD (l .«bought_indirect») i 0 ≡ sumOf (λ r. onlyAt i (entry r .buyer) (entry r .indirect .0)) above
+  pub balances : (i : ℕ) → getD (l .balances .0) i (pos 0) ≡ diff (sumOf (plus i) above) (sumOf (minus i) above)
+  pub indirect : (i : ℕ) → getD (l .indirect .0) i 0 ≡ sumOf (λ r. onlyAt i (entry r .user) (entry r .power .0)) above
+  pub bought-direct : (i : ℕ) → getD (l .«bought_direct» .0) i 0 ≡ sumOf (λ r. onlyAt i (entry r .buyer) (entry r .direct .0)) above
+  pub bought-indirect : (i : ℕ) → getD (l .«bought_indirect» .0) i 0 ≡ sumOf (λ r. onlyAt i (entry r .buyer) (entry r .indirect .0)) above
   pub entered : l .totals .entered .0 ≡ diff (sumOf (λ r. entry r .entering .0) above) (sumOf (λ r. entry r .leaving .0) above)
   pub uncredited : l .totals .uncredited .0 ≡ sumOf (λ r. entry r .lost .0) above
   pub within : Within (length above * STEP) l

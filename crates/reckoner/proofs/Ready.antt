@@ -38,7 +38,7 @@ module _ (rs : List Record) (w : Works) (kilos : List ℕ) (g : Gathered rs w ki
   pub pairs-is : (i j : ℕ) → j ≤ w .count → pairs kilos i j ≡ kilosBetween rs i j
   pairs-is i j h = g .kilos-at i j (count-in j h)
 
-  settleable : (own : ℕ → ℕ) → sumTo (w .count) own < 2 ^ 63 → Settleable (w .count) (figures (w .outputs)) (pairs kilos) own
+  settleable : (own : ℕ → ℕ) → sumTo (w .count) own < 2 ^ 63 → Settleable (w .count) (figures (w .outputs .0)) (pairs kilos) own
   settleable own small = record {
     some = λ i l h. rw (g .output-at i) (g .made i l h);
     small = λ i l h. omega (arith, g .output-at i, g .outputs-small i);
@@ -63,7 +63,7 @@ module _ (rs : List Record) (w : Works) (kilos : List ℕ) (g : Gathered rs w ki
   unfolding totalRaised
   raised-sum = rw (g .count) (sum-ext n _ _ raised-is)
 
-  pub ready : Ready (w .ledger) (w .outputs) kilos (w .count)
+  pub ready : Ready (w .ledger) (w .outputs .0) kilos (w .count)
   ready = record {
     few = g .few;
     balances = g .room .balances;

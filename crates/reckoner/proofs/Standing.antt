@@ -50,14 +50,14 @@ pub record Standing (above : List Record) (w : Works) (kilos : List ℕ) : Type 
   pub lines : w .lines ≡ length above
   pub few : length above ≤ limits .lines
   pub held : Held limits above (w .count)
-  pub goods : HeldGoods above (w .count) (w .outputs) (w .taken) kilos
+  pub goods : HeldGoods above (w .count) (w .outputs .0) (w .taken .0) kilos
   pub made : Made above
   pub once : Once above
   pub ledger : HeldLedger above (w .ledger)
 
 -- ---- there is room for one line more
 
-pub roomy : (above : List Record) (w : Works) (kilos : List ℕ) → Standing above w kilos → Roomy (w .count) (w .outputs) (w .taken) kilos
+pub roomy : (above : List Record) (w : Works) (kilos : List ℕ) → Standing above w kilos → Roomy w kilos
 roomy above w kilos s = record {
   count = omega (arith, s .held .few, s .few);
   outputs = λ i. omega (arith, s .goods .outputs-small i, s .few);
@@ -70,7 +70,7 @@ room above w kilos s = within-more (omega (arith, s .few)) (s .ledger .within)
 
 -- what is held of a G line's processes
 pub good-held : (above : List Record) (w : Works) (kilos : List ℕ) → Standing above w kilos → (kind : Kind) (f t : ℕ)
-    → GoodAsked above kind f t (w .count) (getD (w .outputs) f 0) (getD (w .taken) f 0) (getD kilos (f * SIZE + t) 0)
+    → GoodAsked above kind f t (w .count) (getD (w .outputs .0) f 0) (getD (w .taken .0) f 0) (getD kilos (f * SIZE + t) 0)
 good-held above w kilos s kind f t k a b c =
     let place : t < SIZE = omega (arith, s .held .most) in
     record {
@@ -82,7 +82,7 @@ good-held above w kilos s kind f t k a b c =
 -- ---- above the first line
 
 -- nothing above
-pub standing-start : (w : Works) (kilos : List ℕ) → w .lines ≡ 0 → w .count ≡ 0 → HeldGoods [] (w .count) (w .outputs) (w .taken) kilos → HeldLedger [] (w .ledger)
+pub standing-start : (w : Works) (kilos : List ℕ) → w .lines ≡ 0 → w .count ≡ 0 → HeldGoods [] (w .count) (w .outputs .0) (w .taken .0) kilos → HeldLedger [] (w .ledger)
     → Standing [] w kilos
 unfolding kilosBetween sumOf anyOf
 standing-start w kilos l c g h = record {
@@ -191,7 +191,7 @@ module _ (sheet : List ℕ) (start : ℕ) (l : LineRead) (read : ReadAt sheet st
           lines = omega (arith, s .lines);
           few = few-next;
           held = rw p at (held-next limits above (lineAt sheet start) (w .count) (s .held) ok);
-          goods = held-other above (w .count) (w .outputs) (w .taken) kilos (s .goods) r p g;
+          goods = held-other above (w .count) (w .outputs .0) (w .taken .0) kilos (s .goods) r p g;
           made = made-next above r (s .made) (λ e. absurd (never (sym p ∙ e)));
           once = once-next above r (s .once) (λ e. absurd (never (sym g ∙ e)));
           ledger = booked-next;
@@ -210,7 +210,7 @@ module _ (sheet : List ℕ) (start : ℕ) (l : LineRead) (read : ReadAt sheet st
           lines = omega (arith, s .lines);
           few = few-next;
           held = rw add-one (rw p at (held-next limits above (lineAt sheet start) (w .count) (s .held) ok));
-          goods = held-process above (w .count) (w .outputs) (w .taken) kilos (s .goods) r p g (omega (arith, at0, n .0 .high)) (omega (arith, at1, n .1 .high));
+          goods = held-process above (w .count) (w .outputs .0) (w .taken .0) kilos (s .goods) r p g (omega (arith, at0, n .0 .high)) (omega (arith, at1, n .1 .high));
           made = made-next above r (s .made) (λ z. omega (arith, at1, n .1 .low));
           once = once-next above r (s .once) (λ z. absurd (never (sym g ∙ z)));
           ledger = booked-next;
@@ -230,7 +230,7 @@ module _ (sheet : List ℕ) (start : ℕ) (l : LineRead) (read : ReadAt sheet st
           lines = omega (arith, s .lines);
           few = few-next;
           held = rw p at (held-next limits above (lineAt sheet start) (w .count) (s .held) ok);
-          goods = held-good above (w .count) (w .outputs) (w .taken) kilos (s .goods) r p g (omega (arith, at0, n .0 .high)) (omega (arith, at1, n .1 .high)) (omega (arith, at2, n .2 .high));
+          goods = held-good above (w .count) (w .outputs .0) (w .taken .0) kilos (s .goods) r p g (omega (arith, at0, n .0 .high)) (omega (arith, at1, n .1 .high)) (omega (arith, at2, n .2 .high));
           made = made-next above r (s .made) (λ z. absurd (never (sym p ∙ z)));
           once = once-next above r (s .once) (λ z. omega (arith, at2, n .2 .low));
           ledger = booked-next;

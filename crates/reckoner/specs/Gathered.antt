@@ -1,13 +1,13 @@
 -- What reading all lines of an accepted sheet leaves: document 01's figures, process by process.
 use mathlib.Core.Path.{_≡_}
 use mathlib.Core.List.{List, []}
-use Prim.Native.Nat.{ℕ, _+_, _*_, _^_, _≤_, _<_}
-use lib.IntN.{pos}
-use lib.ListN.{length, getD, replicate}
+use Prim.Native.Nat.{ℕ, _+_, _^_, _≤_, _<_}
+use lib.ListN.{length, replicate}
 use Rattle.lines.specs.Lines.{linesOf}
 use Rattle.lines.specs.Records.{Record, recordsOf}
-use Rattle.goods.specs.Settling.{SIZE, PAIRS}
+use Rattle.goods.specs.Settling.{SIZE, PAIRS, figures, pairs}
 use Rattle.goods.specs.Sums.{sumTo}
+use Rattle.ledger.specs.Columns.{signedFigures}
 use Rattle.ledger.specs.Ledger.{Room}
 use Rattle.quantity.specs.Limits.{limits}
 use Rattle.sheet.specs.Verdict.{accepted, firstOf, linesChecks, numberOf, lineOf}
@@ -21,13 +21,13 @@ use Rattle.reckoner.specs.declared.reading.Read.{Read}
 pub record Gathered (rs : List Record) (w : Works) (kilos : List ℕ) : Type 0 where
   pub count : w .count ≡ processCount rs
   pub few : w .count ≤ limits .processes
-  pub outputs-size : length (w .outputs) ≡ SIZE
-  pub output-at : (i : ℕ) → getD (w .outputs) i 0 ≡ output rs i
-  pub kilos-at : (i j : ℕ) → j < SIZE → getD kilos (i * SIZE + j) 0 ≡ kilosBetween rs i j
-  pub balance-at : (i : ℕ) → getD (w .ledger .balances) i (pos 0) ≡ balance rs i
-  pub indirect-at : (i : ℕ) → getD (w .ledger .indirect) i 0 ≡ indirect rs i
-  pub bought-direct-at : (i : ℕ) → getD (w .ledger .«bought_direct») i 0 ≡ boughtDirect rs i
-  pub bought-indirect-at : (i : ℕ) → getD (w .ledger .«bought_indirect») i 0 ≡ boughtIndirect rs i
+  pub outputs-size : length (w .outputs .0) ≡ SIZE
+  pub output-at : (i : ℕ) → figures (w .outputs .0) i ≡ output rs i
+  pub kilos-at : (i j : ℕ) → j < SIZE → pairs kilos i j ≡ kilosBetween rs i j
+  pub balance-at : (i : ℕ) → signedFigures (w .ledger .balances .0) i ≡ balance rs i
+  pub indirect-at : (i : ℕ) → figures (w .ledger .indirect .0) i ≡ indirect rs i
+  pub bought-direct-at : (i : ℕ) → figures (w .ledger .«bought_direct» .0) i ≡ boughtDirect rs i
+  pub bought-indirect-at : (i : ℕ) → figures (w .ledger .«bought_indirect» .0) i ≡ boughtIndirect rs i
   pub entered-is : w .ledger .totals .entered .0 ≡ entered rs
   pub uncredited-is : w .ledger .totals .uncredited .0 ≡ uncredited rs
   pub made : (i : ℕ) → 1 ≤ i → i ≤ w .count → 1 ≤ output rs i

@@ -6,9 +6,11 @@ use Prim.Native.Nat.{ℕ, _^_, _≤_, _<_}
 use lib.Dec.{leb}
 use lib.IntN.{ℤ, pos, negsuc, natAbs}
 use lib.Signed.{leZ}
-use lib.ListN.{getD, length, replicate}
+use lib.ListN.{length, replicate}
 use Rattle.lines.specs.Records.{Record, recordsOf}
 use Rattle.goods.specs.Settling.{SIZE, figures}
+use Rattle.goods.specs.declared.GramsByProcess.{GramsByProcess}
+use Rattle.goods.specs.declared.KilosByProcess.{KilosByProcess}
 use Rattle.quantity.specs.Limits.{limits}
 use Rattle.sheet.specs.Verdict.{accepted, firstOf, numberOf, lineOf}
 use Rattle.judge.specs.Code.{refusalNumber}
@@ -26,7 +28,7 @@ use Rattle.reckoner.specs.declared.Reckoning.{Reckoning}
 -- the array has the figure of each process at its number
 pub record Column (count : ℕ) (figure : ℕ → ℕ) (a : List ℕ) : Type 0 where
   pub size : length a ≡ SIZE
-  pub at : (k : ℕ) → 1 ≤ k → k ≤ count → getD a k 0 ≡ figure k
+  pub at : (k : ℕ) → 1 ≤ k → k ≤ count → figures a k ≡ figure k
 
 -- the figures of an accepted sheet
 pub record FiguresOf (rs : List Record) (r : Reckoning) : Type 0 where
@@ -34,14 +36,14 @@ pub record FiguresOf (rs : List Record) (r : Reckoning) : Type 0 where
   pub few : r .count ≤ limits .processes
   pub made : (k : ℕ) → 1 ≤ k → k ≤ r .count → 1 ≤ output rs k
   pub outputs-small : (k : ℕ) → output rs k ≤ MOST
-  pub outputs : Column (r .count) (output rs) (r .outputs)
-  pub directs : Column (r .count) (direct rs) (r .figures .direct)
-  pub indirects : Column (r .count) (indirect rs) (r .figures .indirect)
-  pub raiseds : Column (r .count) (raised rs) (r .figures .raised)
-  pub direct-pools : Column (r .count) (directPool rs) (r .figures .«direct_pools»)
-  pub indirect-pools : Column (r .count) (indirectPool rs) (r .figures .«indirect_pools»)
-  pub direct-lefts : Column (r .count) (directLeft rs) (r .figures .«direct_lefts»)
-  pub indirect-lefts : Column (r .count) (indirectLeft rs) (r .figures .«indirect_lefts»)
+  pub outputs : Column (r .count) (output rs) (r .outputs .0)
+  pub directs : Column (r .count) (direct rs) (r .figures .direct .0)
+  pub indirects : Column (r .count) (indirect rs) (r .figures .indirect .0)
+  pub raiseds : Column (r .count) (raised rs) (r .figures .raised .0)
+  pub direct-pools : Column (r .count) (directPool rs) (r .figures .«direct_pools» .0)
+  pub indirect-pools : Column (r .count) (indirectPool rs) (r .figures .«indirect_pools» .0)
+  pub direct-lefts : Column (r .count) (directLeft rs) (r .figures .«direct_lefts» .0)
+  pub indirect-lefts : Column (r .count) (indirectLeft rs) (r .figures .«indirect_lefts» .0)
   pub left-is : r .figures .left .0 ≡ totalLeft rs
   pub entered-is : r .entered .0 ≡ entered rs
   pub raised-is : r .figures .«total_raised» .0 ≡ totalRaised rs
@@ -50,18 +52,21 @@ pub record FiguresOf (rs : List Record) (r : Reckoning) : Type 0 where
   pub entered-small : natAbs (r .entered .0) < 2 ^ 63
 
 -- a refused sheet has no figures
-abbrev pub none : List ℕ
-none = replicate SIZE 0
+abbrev pub noGrams : GramsByProcess
+noGrams = record { 0 = replicate SIZE 0 }
+
+abbrev pub noKilos : KilosByProcess
+noKilos = record { 0 = replicate SIZE 0 }
 
 abbrev pub nothing : Closing
 nothing = record {
-  direct = none;
-  indirect = none;
-  raised = none;
-  «direct_pools» = none;
-  «indirect_pools» = none;
-  «direct_lefts» = none;
-  «indirect_lefts» = none;
+  direct = noGrams;
+  indirect = noGrams;
+  raised = noGrams;
+  «direct_pools» = noGrams;
+  «indirect_pools» = noGrams;
+  «direct_lefts» = noGrams;
+  «indirect_lefts» = noGrams;
   left = record { 0 = 0 };
   «total_raised» = record { 0 = 0 };
 }
@@ -71,7 +76,7 @@ refusedBy refusal line = record {
   refusal = refusal;
   line = line;
   count = 0;
-  outputs = none;
+  outputs = noKilos;
   figures = nothing;
   entered = record { 0 = pos 0 };
   uncredited = record { 0 = 0 };
@@ -88,9 +93,9 @@ pub record Reckoned (sheet : List ℕ) (r : Reckoning) : Type 0 where
 -- 15, over what the code holds: the figures of processes 1 .. count, and the totals
 abbrev pub largeRows : Closing → (count : ℕ) → Bool
 largeRows c count =
-    (((anyLarge count (figures (c .direct)) || anyLarge count (figures (c .indirect))) || anyLarge count (figures (c .raised)))
-    || (anyLarge count (figures (c .«direct_pools»)) || anyLarge count (figures (c .«indirect_pools»))))
-    || (anyLarge count (figures (c .«direct_lefts»)) || anyLarge count (figures (c .«indirect_lefts»)))
+    (((anyLarge count (figures (c .direct .0)) || anyLarge count (figures (c .indirect .0))) || anyLarge count (figures (c .raised .0)))
+    || (anyLarge count (figures (c .«direct_pools» .0)) || anyLarge count (figures (c .«indirect_pools» .0))))
+    || (anyLarge count (figures (c .«direct_lefts» .0)) || anyLarge count (figures (c .«indirect_lefts» .0)))
 
 -- an i64 is 2^63 or more in size only where it is the least of them
 abbrev pub largeTotals : (left : ℕ) → (entered : ℤ) → (raised uncredited : ℕ) → Bool
@@ -114,4 +119,4 @@ large r = largeRows (r .figures) (r .count) || largeTotals (r .figures .left .0)
 
 pub record ClosedAs (w : Works) (kilos : List ℕ) (r : Reckoning) : Type 0 where
   pub is : r ≡ acceptedAs w (r .figures)
-  pub closed : Closed (w .ledger) (w .outputs) kilos (w .count) (r .figures)
+  pub closed : Closed (w .ledger) (w .outputs .0) kilos (w .count) (r .figures)

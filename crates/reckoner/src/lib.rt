@@ -10,6 +10,9 @@ ghost use Rattle.reckoner.specs.Reckoned.{Reckoned, refusedBy, largeRows
 use closing::Closing;
 use closing::close;
 use closing::too_large;
+use goods::GramsByProcess;
+use goods::KilosByPair;
+use goods::KilosByProcess;
 use goods::PAIRS;
 use goods::SIZE;
 use judge::refusals::Refusal;
@@ -26,7 +29,7 @@ pub struct Reckoning {
     pub refusal: Refusal,
     pub line: usize,
     pub count: usize,
-    pub outputs: [u64; SIZE],
+    pub outputs: KilosByProcess,
     pub figures: Closing,
     pub entered: SignedGrams,
     pub uncredited: Grams,
@@ -41,14 +44,16 @@ const LEAST: i64 = -9223372036854775808;
 fn refused_by(refusal: Refusal, line: usize) -> Reckoning
     ensures { λ r. ⌜ r ≡ refusedBy refusal line ⌝ }
 {
+    let none = GramsByProcess([0; SIZE]);
+    let outputs = KilosByProcess([0; SIZE]);
     let figures = Closing {
-        direct: [0; SIZE],
-        indirect: [0; SIZE],
-        raised: [0; SIZE],
-        direct_pools: [0; SIZE],
-        indirect_pools: [0; SIZE],
-        direct_lefts: [0; SIZE],
-        indirect_lefts: [0; SIZE],
+        direct: none,
+        indirect: none,
+        raised: none,
+        direct_pools: none,
+        indirect_pools: none,
+        direct_lefts: none,
+        indirect_lefts: none,
         left: Grams(0),
         total_raised: Grams(0),
     };
@@ -56,7 +61,7 @@ fn refused_by(refusal: Refusal, line: usize) -> Reckoning
         refusal: refusal,
         line: line,
         count: 0,
-        outputs: [0; SIZE],
+        outputs: outputs,
         figures: figures,
         entered: SignedGrams(0),
         uncredited: Grams(0),
@@ -68,11 +73,11 @@ fn large_rows(f: Closing, count: usize) -> bool
     requires { ⌜ count < SIZE ⌝ }
     ensures { λ r. ⌜ r ≡ largeRows f count ⌝ }
 {
-    let attributed = too_large(&f.direct, count)
-        | too_large(&f.indirect, count)
-        | too_large(&f.raised, count);
-    let pooled = too_large(&f.direct_pools, count) | too_large(&f.indirect_pools, count);
-    let left = too_large(&f.direct_lefts, count) | too_large(&f.indirect_lefts, count);
+    let attributed = too_large(&f.direct.0, count)
+        | too_large(&f.indirect.0, count)
+        | too_large(&f.raised.0, count);
+    let pooled = too_large(&f.direct_pools.0, count) | too_large(&f.indirect_pools.0, count);
+    let left = too_large(&f.direct_lefts.0, count) | too_large(&f.indirect_lefts.0, count);
     attributed | pooled | left
 }
 
@@ -87,8 +92,8 @@ fn large_totals(left: Grams, entered: SignedGrams, raised: Grams, uncredited: Gr
 }
 
 // The figures of a works whose lines are all noted.
-fn figures_of(works: Works, kilos: &[u64; PAIRS]) -> Reckoning
-    requires { ⌜ Ready (works .ledger) (works .outputs) (now kilos) (works .count) ⌝ }
+fn figures_of(works: Works, kilos: &KilosByPair) -> Reckoning
+    requires { ⌜ Ready (works .ledger) (works .outputs .0) (now kilos) (works .count) ⌝ }
     ensures { λ r. ⌜ ClosedAs works (now (kilos .entry)) r ⌝ }
 {
     let ledger = works.ledger;
@@ -96,7 +101,7 @@ fn figures_of(works: Works, kilos: &[u64; PAIRS]) -> Reckoning
     let totals = ledger.totals;
     let entered = totals.entered;
     let uncredited = totals.uncredited;
-    let figures = close(ledger, &outputs, kilos, works.count);
+    let figures = close(ledger, outputs, kilos, works.count);
     Reckoning {
         refusal: Refusal::Accepted,
         line: 0,
@@ -136,7 +141,7 @@ pub fn reckon(s: &[u8]) -> Reckoning
     if refusal_number(first) != 0 {
         return refused_by(first, 1);
     }
-    let mut kilos: [u64; PAIRS] = [0; PAIRS];
+    let mut kilos: KilosByPair = [0; PAIRS];
     let read = read_lines(s, &mut kilos);
     let refusal = read.refusal;
     if refusal_number(refusal) != 0 {

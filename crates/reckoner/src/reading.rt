@@ -7,27 +7,33 @@ ghost use Rattle.lines.specs.Lines.{linesOf};
 ghost use Rattle.quantity.specs.Limits.{limits};
 ghost use Rattle.sheet.specs.Verdict.{firstOf, linesChecks, refused};
 ghost use Rattle.judge.specs.Code.{refusalNumber};
-ghost use Rattle.ledger.specs.Ledger.{nothingMoved, ledgerOf};
-ghost use Rattle.judge.specs.declared.refusals.Refusal.the-variants.{Accepted};
-ghost use Rattle.works.specs.Works.{worksOf};
+ghost use Rattle.ledger.specs.Ledger.{nothingMoved};
+ghost use Rattle.works.specs.Works.{worksAtStart};
 ghost use Rattle.reckoner.specs.Gathered.{ReadOf, NoKilos};
 use entries::weigh;
-use goods::PAIRS;
+use goods::GramsByProcess;
+use goods::KilosByPair;
+use goods::KilosByProcess;
 use goods::SIZE;
+use goods::SignedGramsByProcess;
 use judge::refusals::Refusal;
 use judge::refusals::refusal_number;
 use ledger::Ledger;
 use ledger::Totals;
-use ledger::book;
+use ledger::add;
+use ledger::charge;
+use ledger::enter;
 use places::line_end;
 use quantity::Grams;
 use quantity::SignedGrams;
 use records::line_kind;
 use records::read_line;
 use works::Works;
+use works::judging::above_line;
 use works::judging::letter_of;
 use works::judging::line_refusal;
-use works::noting::note;
+use works::noting::note_own_good;
+use works::noting::note_process;
 
 // The first refusal by rows 2 to 13 and its line, 0 where there is none, and what the lines say.
 pub struct Read {
@@ -46,70 +52,38 @@ fn nothing_moved() -> Totals
     }
 }
 
+// Above the first line: nothing is said.
+fn nothing_read() -> Works
+    ensures { λ r. ⌜ r ≡ worksAtStart ⌝ }
+{
+    let totals = nothing_moved();
+    let balances = SignedGramsByProcess([0; SIZE]);
+    let no_grams = GramsByProcess([0; SIZE]);
+    let no_kilos = KilosByProcess([0; SIZE]);
+    let ledger = Ledger {
+        balances,
+        indirect: no_grams,
+        bought_direct: no_grams,
+        bought_indirect: no_grams,
+        totals,
+    };
+    Works {
+        lines: 0,
+        count: 0,
+        outputs: no_kilos,
+        taken: no_kilos,
+        ledger,
+    }
+}
+
 // A refused sheet: no line counts.
 fn refused_at(refusal: Refusal, line: usize) -> Read
     ensures { λ r. ⌜ (r .refusal ≡ refusal) × (r .line ≡ line) ⌝ }
 {
-    let ledger = Ledger {
-        balances: [0; SIZE],
-        indirect: [0; SIZE],
-        bought_direct: [0; SIZE],
-        bought_indirect: [0; SIZE],
-        totals: nothing_moved(),
-    };
-    let works = Works {
-        lines: 0,
-        count: 0,
-        outputs: [0; SIZE],
-        taken: [0; SIZE],
-        ledger,
-    };
+    let works = nothing_read();
     Read {
         refusal,
         line,
-        works,
-    }
-}
-
-// The ledger of its columns and totals.
-fn ledger_of(
-    balances: [i64; SIZE],
-    indirect: [u64; SIZE],
-    bought_direct: [u64; SIZE],
-    bought_indirect: [u64; SIZE],
-    totals: Totals,
-) -> Ledger
-    ensures { λ r. ⌜ r ≡ ledgerOf balances indirect «bought_direct» «bought_indirect» totals ⌝ }
-{
-    Ledger {
-        balances,
-        indirect,
-        bought_direct,
-        bought_indirect,
-        totals,
-    }
-}
-
-// All lines are noted, and none is refused.
-fn accepted(
-    lines: usize,
-    count: usize,
-    outputs: [u64; SIZE],
-    taken: [u64; SIZE],
-    ledger: Ledger,
-) -> Read
-    ensures { λ r. ⌜ r ≡ record { refusal = Accepted; line = 0; works = worksOf lines count outputs taken ledger } ⌝ }
-{
-    let works = Works {
-        lines,
-        count,
-        outputs,
-        taken,
-        ledger,
-    };
-    Read {
-        refusal: Refusal::Accepted,
-        line: 0,
         works,
     }
 }
@@ -130,38 +104,47 @@ pub fn first_refusal(s: &[u8]) -> Refusal
 }
 
 // All lines of a sheet; `kilos` gets the kilograms of each pair of processes.
-pub fn read_lines(s: &[u8], kilos: &mut [u64; PAIRS]) -> Read
+pub fn read_lines(s: &[u8], kilos: &mut KilosByPair) -> Read
     requires { ⌜ NoKilos (now kilos) ⌝ }
     ensures { λ r. ⌜ ReadOf (now (s .entry)) (now (kilos .exit)) r ⌝ }
 {
-    let mut balances: [i64; SIZE] = [0; SIZE];
-    let mut indirect: [u64; SIZE] = [0; SIZE];
-    let mut bought_direct: [u64; SIZE] = [0; SIZE];
-    let mut bought_indirect: [u64; SIZE] = [0; SIZE];
-    let mut outputs: [u64; SIZE] = [0; SIZE];
-    let mut taken: [u64; SIZE] = [0; SIZE];
-    let mut totals = nothing_moved();
-    let mut lines: usize = 0;
-    let mut count: usize = 0;
+    let mut works = nothing_read();
     let mut at: usize = 0;
     while at < s.len() {
         let l = read_line(s, at);
-        let refusal = line_refusal(lines, count, &outputs, &taken, kilos, l, s.len());
+        let lines = works.lines;
+        let count = works.count;
+        let kind = l.kind;
+        let above = above_line(
+            lines,
+            count,
+            &works.outputs.0,
+            &works.taken.0,
+            kilos,
+            kind,
+            &l.words,
+        );
+        let refusal = line_refusal(above, l, s.len());
         if refusal_number(refusal) != 0 {
             return refused_at(refusal, lines + 1);
         }
         at = l.end + 1;
-        totals = book(
-            &mut balances,
-            &mut indirect,
-            &mut bought_direct,
-            &mut bought_indirect,
-            totals,
-            weigh(l),
-        );
-        count = note(count, &mut outputs, &mut taken, kilos, l);
-        lines += 1;
+        let counted = note_process(&mut works.outputs.0, count, l);
+        note_own_good(&mut works.taken.0, kilos, l);
+        works.count = counted;
+        works.lines = lines + 1;
+        let e = weigh(l);
+        charge(&mut works.ledger.balances.0, e);
+        add(&mut works.ledger.indirect.0, e.user, e.power);
+        add(&mut works.ledger.bought_direct.0, e.buyer, e.direct);
+        add(&mut works.ledger.bought_indirect.0, e.buyer, e.indirect);
+        enter(&mut works.ledger.totals.entered.0, e);
+        let uncredited = works.ledger.totals.uncredited.0 + e.lost.0;
+        works.ledger.totals.uncredited.0 = uncredited;
     }
-    let ledger = ledger_of(balances, indirect, bought_direct, bought_indirect, totals);
-    accepted(lines, count, outputs, taken, ledger)
+    Read {
+        refusal: Refusal::Accepted,
+        line: 0,
+        works,
+    }
 }

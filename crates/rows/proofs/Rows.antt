@@ -7,6 +7,7 @@ use native.Mathlib.Decide.{decLe}
 use native.Mathlib.Omega.{arith}
 use lib.ListN.{length, take, length-append}
 use Rattle.decimal.specs.Spelling.{spelling}
+use Rattle.goods.specs.Settling.{figures}
 use Rattle.report.specs.Report.{reportRow, reportOf}
 use Rattle.report.specs.Spelling.{Figure, whole, minus, thousandths, threeDigits, spellFigure, spellFigures, ReportLine, reportLine, spellLines, rowLine, totalLine, reportBytes}
 use Rattle.figures.specs.Figures.{FIELDS, three, spelt, tailed, line, held}
@@ -30,6 +31,26 @@ pub tailed-held : (fs : List Figure) → tailed (map held fs) ≡ spellFigures f
 unfolding tailed spellFigures
 tailed-held [] = refl
 tailed-held (f ∷ fs) = rw (held-spelt f, tailed-held fs)
+
+-- ---- the figures of a process as the code reads them
+
+pub row-same : (r : Reckoning) (k output direct indirect raised directPool indirectPool directLeft indirectLeft : ℕ)
+    → output ≡ figures (r .outputs .0) k → direct ≡ figures (r .figures .direct .0) k → indirect ≡ figures (r .figures .indirect .0) k
+    → raised ≡ figures (r .figures .raised .0) k → directPool ≡ figures (r .figures .«direct_pools» .0) k → indirectPool ≡ figures (r .figures .«indirect_pools» .0) k
+    → directLeft ≡ figures (r .figures .«direct_lefts» .0) k → indirectLeft ≡ figures (r .figures .«indirect_lefts» .0) k
+    → record {
+      process = k;
+      output = output;
+      direct = direct;
+      indirect = indirect;
+      raised = raised;
+      directPool = directPool;
+      indirectPool = indirectPool;
+      directLeft = directLeft;
+      indirectLeft = indirectLeft;
+    } ≡ rowHeld r k
+unfolding rowHeld
+row-same r k output direct indirect raised directPool indirectPool directLeft indirectLeft a b c d e f g h = rw (a, b, c, d, e, f, g, h)
 
 -- ---- lines
 

@@ -2,9 +2,8 @@
 use mathlib.Core.List.{List, [], _∷_, _++_, map}
 use Prim.Native.Nat.{ℕ, zero, suc, _^_, _≤_, _<_}
 use lib.IntN.{natAbs}
-use lib.ListN.{getD}
 use Rattle.quantity.specs.Limits.{limits}
-use Rattle.goods.specs.Settling.{SIZE}
+use Rattle.goods.specs.Settling.{SIZE, figures}
 use Rattle.attribution.specs.Reckoning as attribution
 use Rattle.report.specs.Report.{reportRow, reportOf}
 use Rattle.report.specs.Outcome.{longest}
@@ -22,22 +21,22 @@ LONGEST = longest limits
 -- what the writer asks of a reckoning
 pub record Sound (r : Reckoning) : Type 0 where
   pub few : r .count < SIZE
-  pub made : (k : ℕ) → 1 ≤ k → k ≤ r .count → 1 ≤ getD (r .outputs) k 0
-  pub small : (k : ℕ) → 1 ≤ k → k ≤ r .count → getD (r .outputs) k 0 ≤ MOST
+  pub made : (k : ℕ) → 1 ≤ k → k ≤ r .count → 1 ≤ figures (r .outputs .0) k
+  pub small : (k : ℕ) → 1 ≤ k → k ≤ r .count → figures (r .outputs .0) k ≤ MOST
   pub sign : natAbs (r .entered .0) < 2 ^ 63
 
 -- the figures of process k
 unfoldable pub rowHeld : Reckoning → (k : ℕ) → attribution.Row
 rowHeld r k = record {
   process = k;
-  output = getD (r .outputs) k 0;
-  direct = getD (r .figures .direct) k 0;
-  indirect = getD (r .figures .indirect) k 0;
-  raised = getD (r .figures .raised) k 0;
-  directPool = getD (r .figures .«direct_pools») k 0;
-  indirectPool = getD (r .figures .«indirect_pools») k 0;
-  directLeft = getD (r .figures .«direct_lefts») k 0;
-  indirectLeft = getD (r .figures .«indirect_lefts») k 0;
+  output = figures (r .outputs .0) k;
+  direct = figures (r .figures .direct .0) k;
+  indirect = figures (r .figures .indirect .0) k;
+  raised = figures (r .figures .raised .0) k;
+  directPool = figures (r .figures .«direct_pools» .0) k;
+  indirectPool = figures (r .figures .«indirect_pools» .0) k;
+  directLeft = figures (r .figures .«direct_lefts» .0) k;
+  indirectLeft = figures (r .figures .«indirect_lefts» .0) k;
 }
 
 abbrev pub totalsHeld : Reckoning → attribution.Totals

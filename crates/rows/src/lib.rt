@@ -7,6 +7,7 @@ ghost use Rattle.decimal.specs.Writing.{Put};
 ghost use Rattle.report.specs.Report.{specific};
 ghost use Rattle.report.specs.Spelling.{thousandths, signed};
 ghost use Rattle.figures.specs.Figures.{FIELDS, held, tailed, line};
+ghost use Rattle.goods.specs.Settling.{SIZE, figures};
 ghost use Rattle.works.specs.Works.{MOST};
 ghost use Rattle.rows.specs.Held.{Sound, rowSaid, fieldsOf, totalFields, rowsBytes, bytesHeld};
 use figures::FIELDS;
@@ -14,6 +15,7 @@ use figures::Figure;
 use figures::put_byte;
 use figures::put_figure;
 use figures::put_line;
+use goods::SIZE;
 use quantity::Grams;
 use quantity::Kilos;
 use quantity::SignedGrams;
@@ -52,6 +54,22 @@ pub struct Row {
     pub indirect_pool: Grams,
     pub direct_left: Grams,
     pub indirect_left: Grams,
+}
+
+// The grams of process k, from a column of grams.
+fn grams_of(column: &[u64; SIZE], k: usize) -> Grams
+    requires { ⌜ k < SIZE ⌝ }
+    ensures { λ r. ⌜ r .0 ≡ figures (now (column .entry)) k ⌝ }
+{
+    Grams(column[k])
+}
+
+// The kilograms of process k, from a column of kilograms.
+fn kilos_of(column: &[u64; SIZE], k: usize) -> Kilos
+    requires { ⌜ k < SIZE ⌝ }
+    ensures { λ r. ⌜ r .0 ≡ figures (now (column .entry)) k ⌝ }
+{
+    Kilos(column[k])
 }
 
 // The fields of a process's line.
@@ -103,14 +121,14 @@ fn put_rows(space: &mut [u8], r: Reckoning) -> usize
         k += 1;
         let row = Row {
             process: k,
-            output: Kilos(outputs[k]),
-            direct: Grams(f.direct[k]),
-            indirect: Grams(f.indirect[k]),
-            raised: Grams(f.raised[k]),
-            direct_pool: Grams(f.direct_pools[k]),
-            indirect_pool: Grams(f.indirect_pools[k]),
-            direct_left: Grams(f.direct_lefts[k]),
-            indirect_left: Grams(f.indirect_lefts[k]),
+            output: kilos_of(&outputs.0, k),
+            direct: grams_of(&f.direct.0, k),
+            indirect: grams_of(&f.indirect.0, k),
+            raised: grams_of(&f.raised.0, k),
+            direct_pool: grams_of(&f.direct_pools.0, k),
+            indirect_pool: grams_of(&f.indirect_pools.0, k),
+            direct_left: grams_of(&f.direct_lefts.0, k),
+            indirect_left: grams_of(&f.indirect_lefts.0, k),
         };
         at = put_line(space, at, b'R', row_fields(row), FIELDS);
     }

@@ -18,21 +18,21 @@ use Rattle.entries.proofs.KindWords.{process-words, goods-words}
 use Rattle.works.specs.declared.Works.{Works}
 use Rattle.ledger.specs.Ledger.{booked}
 use Rattle.entries.specs.Entries.{entry}
-use Rattle.works.specs.Works.{worksOf, outputNoted, takenNoted, pairNoted, countAfter, outputsAfter, takenAfter, kilosAfter, worksAfter, KILOS, MOST, Roomy}
+use Rattle.works.specs.Works.{worksOf, outputNoted, takenNoted, pairNoted, countAfter, outputsAfter, takenAfter, kilosAfter, worksAfter, KILOS}
 
 module _ (w : Works) (kilos : List ℕ) (l : LineRead) where
   -- ---- what is left, by the kind
 
   -- as long as the line is no P line and no G line
   abbrev pub lineBooked : Works
-  lineBooked = worksOf (w .lines + 1) (w .count) (w .outputs) (w .taken) (booked (w .ledger) (entry (recordRead l)))
+  lineBooked = worksOf (w .lines + 1) (w .count) (w .outputs .0) (w .taken .0) (booked (w .ledger) (entry (recordRead l)))
 
   abbrev pub processNoted : Works
   processNoted =
-      worksOf (w .lines + 1) (w .count + 1) (outputNoted (w .outputs) l) (w .taken) (booked (w .ledger) (entry (recordRead l)))
+      worksOf (w .lines + 1) (w .count + 1) (outputNoted (w .outputs .0) l) (w .taken .0) (booked (w .ledger) (entry (recordRead l)))
 
   abbrev pub goodNoted : Works
-  goodNoted = worksOf (w .lines + 1) (w .count) (w .outputs) (takenNoted (w .taken) l) (booked (w .ledger) (entry (recordRead l)))
+  goodNoted = worksOf (w .lines + 1) (w .count) (w .outputs .0) (takenNoted (w .taken .0) l) (booked (w .ledger) (entry (recordRead l)))
 
   pub after-process : l .kind ≡ Process → (worksAfter w l ≡ processNoted) × (kilosAfter kilos l ≡ kilos)
   unfolding countAfter outputsAfter takenAfter kilosAfter
@@ -47,40 +47,33 @@ module _ (w : Works) (kilos : List ℕ) (l : LineRead) where
   unfolding countAfter outputsAfter takenAfter kilosAfter
   after-other p g = (rw (p, g), rw g)
 
-module _ (count : ℕ) (outputs taken kilos : List ℕ) (l : LineRead) where
-  -- the kilograms after a line, by its letter
-  abbrev Noted : (c : ℕ) → (o t k : List ℕ) → Type 0
-  Noted c o t k =
-      (c ≡ countAfter count l) × ((o ≡ outputsAfter outputs l) × ((t ≡ takenAfter taken l) × (k ≡ kilosAfter kilos l)))
+module _ (count : ℕ) (outputs : List ℕ) (l : LineRead) where
+  pub noted-process : letter (l .kind) ≡ letter Process → (count + 1 ≡ countAfter count l) × (outputNoted outputs l ≡ outputsAfter outputs l)
+  unfolding countAfter outputsAfter
+  noted-process e = (rw e, rw e)
 
-  pub noted-process : letter (l .kind) ≡ letter Process → Noted (count + 1) (outputNoted outputs l) taken kilos
-  unfolding countAfter outputsAfter takenAfter kilosAfter
-  noted-process e = (rw e, (rw e, (rw e, rw e)))
+  pub no-process : (letter (l .kind) ≡ letter Process → ⊥) → (count ≡ countAfter count l) × (outputs ≡ outputsAfter outputs l)
+  unfolding countAfter outputsAfter
+  no-process p = let a = ne-eqb _ _ p in (rw a, rw a)
 
-  pub noted-good : letter (l .kind) ≡ letter OwnGood → Noted count outputs (takenNoted taken l) (pairNoted kilos l)
-  unfolding countAfter outputsAfter takenAfter kilosAfter
-  noted-good e = (rw e, (rw e, (rw e, rw e)))
+module _ (taken kilos : List ℕ) (l : LineRead) where
+  pub noted-good : letter (l .kind) ≡ letter OwnGood → (takenNoted taken l ≡ takenAfter taken l) × (pairNoted kilos l ≡ kilosAfter kilos l)
+  unfolding takenAfter kilosAfter
+  noted-good e = (rw e, rw e)
 
-  pub noted-other : (letter (l .kind) ≡ letter Process → ⊥) → (letter (l .kind) ≡ letter OwnGood → ⊥) → Noted count outputs taken kilos
-  unfolding countAfter outputsAfter takenAfter kilosAfter
-  noted-other p g =
-      let a = ne-eqb _ _ p in
-      let b = ne-eqb _ _ g in
-      (rw a, (rw a, (rw b, rw b)))
+  pub no-good : (letter (l .kind) ≡ letter OwnGood → ⊥) → (taken ≡ takenAfter taken l) × (kilos ≡ kilosAfter kilos l)
+  unfolding takenAfter kilosAfter
+  no-good g = let b = ne-eqb _ _ g in (rw b, rw b)
 
 -- ---- what is asked of the words
 
-module _ (count : ℕ) (outputs taken kilos : List ℕ) (l : LineRead) (shaped : Shaped limits (recordRead l)) (sized : length (l .words) ≡ 8)
-    (few : l .count ≤ 8) (roomy : Roomy count outputs taken kilos) where
-  pub output-asked : letter (l .kind) ≡ letter Process
-      → ((getD (l .words) 0 0 < SIZE) × (getD (l .words) 1 0 ≤ KILOS)) × (getD outputs (getD (l .words) 0 0) 0 ≤ MOST)
+module _ (l : LineRead) (shaped : Shaped limits (recordRead l)) (sized : length (l .words) ≡ 8) (few : l .count ≤ 8) where
+  pub output-asked : letter (l .kind) ≡ letter Process → (getD (l .words) 0 0 < SIZE) × (getD (l .words) 1 0 ≤ KILOS)
   output-asked e =
       let n = process-words limits l shaped sized few (sym (kind-letter (l .kind)) ∙ ap kindOf e) in
-      ((omega (arith, n .0 .high), n .1 .high), roomy .outputs (getD (l .words) 0 0))
+      (omega (arith, n .0 .high), n .1 .high)
 
-  pub good-asked : letter (l .kind) ≡ letter OwnGood
-      → ((getD (l .words) 0 0 < SIZE) × ((getD (l .words) 1 0 < SIZE) × (getD (l .words) 2 0 ≤ KILOS)))
-      × ((getD taken (getD (l .words) 0 0) 0 ≤ MOST) × (getD kilos (getD (l .words) 0 0 * SIZE + getD (l .words) 1 0) 0 ≤ MOST))
+  pub good-asked : letter (l .kind) ≡ letter OwnGood → (getD (l .words) 0 0 < SIZE) × ((getD (l .words) 1 0 < SIZE) × (getD (l .words) 2 0 ≤ KILOS))
   good-asked e =
       let n = goods-words limits l shaped sized few (sym (kind-letter (l .kind)) ∙ ap kindOf e) in
-      ((omega (arith, n .0 .high), (omega (arith, n .1 .high), n .2 .high)), (roomy .taken (getD (l .words) 0 0), roomy .pairs _))
+      (omega (arith, n .0 .high), (omega (arith, n .1 .high), n .2 .high))

@@ -1,14 +1,16 @@
 -- What the code holds after one line more. Laws join it to document 01's sums; nothing here adds to their meaning.
 use mathlib.Core.Bool.{cond}
 use mathlib.Core.List.{List}
-use Prim.Native.Nat.{ℕ, _+_, _*_, _≤_}
+use Prim.Native.Nat.{ℕ, _+_, _*_, _≤_, _<_}
 use lib.Dec.{eqb, ltb}
 use lib.ListN.{getD, replicate}
 use Rattle.quantity.specs.Limits.{limits}
 use Rattle.lines.specs.Records.{letter}
+use Rattle.lines.specs.declared.Kind.{Kind}
 use Rattle.lines.specs.declared.Kind.the-variants.{Process, OwnGood}
 use Rattle.lines.specs.declared.LineRead.{LineRead}
 use Rattle.goods.specs.Settling.{SIZE}
+use Rattle.ledger.specs.Columns.{AtMost}
 use Rattle.ledger.specs.Ledger.{added, booked, start}
 use Rattle.ledger.specs.declared.Ledger.{Ledger}
 use Rattle.judge.specs.declared.order.Above.{Above}
@@ -17,7 +19,13 @@ use Rattle.entries.specs.Read.{recordRead}
 use Rattle.works.specs.declared.Works.{Works}
 
 abbrev pub worksOf : (lines count : ℕ) → (outputs taken : List ℕ) → Ledger → Works
-worksOf lines count outputs taken ledger = record { lines = lines; count = count; outputs = outputs; taken = taken; ledger = ledger }
+worksOf lines count outputs taken ledger = record {
+  lines = lines;
+  count = count;
+  outputs = record { 0 = outputs };
+  taken = record { 0 = taken };
+  ledger = ledger;
+}
 
 -- the kilograms of a process and of a pair of processes, 0 where there is no such place
 abbrev pub ofProcess : (kilos : List ℕ) → (n : ℕ) → ℕ
@@ -26,15 +34,23 @@ ofProcess kilos n = cond (ltb n SIZE) (getD kilos n 0) 0
 abbrev pub ofPair : (kilos : List ℕ) → (f t : ℕ) → ℕ
 ofPair kilos f t = cond (ltb f SIZE) (cond (ltb t SIZE) (getD kilos (f * SIZE + t) 0) 0) 0
 
--- what the lines above say of a line of these words
-abbrev pub aboveAt : (lines count : ℕ) → (outputs taken kilos words : List ℕ) → Above
-aboveAt lines count outputs taken kilos words = record {
+-- kilograms of an own good, none of any other line
+abbrev pub ofGood : Kind → ℕ → ℕ
+ofGood kind n = cond (eqb (letter kind) (letter OwnGood)) n 0
+
+-- what the lines above say of a line of this kind and these words, from the parts of the state that the code reads
+abbrev pub aboveAt : (lines count : ℕ) → (outputs taken kilos : List ℕ) → Kind → (words : List ℕ) → Above
+aboveAt lines count outputs taken kilos kind words = record {
   lines = lines;
   processes = count;
-  output = record { 0 = ofProcess outputs (getD words 0 0) };
-  taken = record { 0 = ofProcess taken (getD words 0 0) };
-  pair = record { 0 = ofPair kilos (getD words 0 0) (getD words 1 0) };
+  output = record { 0 = ofGood kind (ofProcess outputs (getD words 0 0)) };
+  taken = record { 0 = ofGood kind (ofProcess taken (getD words 0 0)) };
+  pair = record { 0 = ofGood kind (ofPair kilos (getD words 0 0) (getD words 1 0)) };
 }
+
+-- WHAT THE LINES ABOVE SAY of a line, from the state: the struct, and the kilograms of pairs
+abbrev pub aboveOf : Works → (kilos : List ℕ) → LineRead → Above
+aboveOf w kilos l = aboveAt (w .lines) (w .count) (w .outputs .0) (w .taken .0) kilos (l .kind) (l .words)
 
 -- a P line: one process more, and its output
 abbrev pub outputNoted : List ℕ → LineRead → List ℕ
@@ -62,7 +78,7 @@ kilosAfter kilos l = cond (eqb (letter (l .kind)) (letter OwnGood)) (pairNoted k
 -- a line of any kind: its entry booked, its kilograms noted
 abbrev pub worksAfter : Works → LineRead → Works
 worksAfter w l =
-    worksOf (w .lines + 1) (countAfter (w .count) l) (outputsAfter (w .outputs) l) (takenAfter (w .taken) l)
+    worksOf (w .lines + 1) (countAfter (w .count) l) (outputsAfter (w .outputs .0) l) (takenAfter (w .taken .0) l)
     (booked (w .ledger) (entry (recordRead l)))
 
 -- the most kilograms of one field, and of one field of every line
@@ -73,11 +89,21 @@ abbrev pub MOST : ℕ
 MOST = limits .lines * KILOS
 
 -- there is room for the kilograms of one line more
-pub record Roomy (processes : ℕ) (made took kilos : List ℕ) : Type 0 where
-  pub count : processes ≤ limits .lines
-  pub outputs : (i : ℕ) → getD made i 0 ≤ MOST
-  pub taken : (i : ℕ) → getD took i 0 ≤ MOST
-  pub pairs : (i : ℕ) → getD kilos i 0 ≤ MOST
+pub record Roomy (w : Works) (kilos : List ℕ) : Type 0 where
+  pub count : w .count ≤ limits .lines
+  pub outputs : AtMost MOST (w .outputs .0)
+  pub taken : AtMost MOST (w .taken .0)
+  pub pairs : AtMost MOST kilos
+
+-- what noting a P line asks, and what noting a G line asks
+abbrev pub OutputAsked : (outputs : List ℕ) → LineRead → Type 0
+OutputAsked outputs l =
+    (getD (l .words) 0 0 < SIZE) × (getD (l .words) 1 0 ≤ KILOS) × (getD outputs (getD (l .words) 0 0) 0 ≤ MOST)
+
+abbrev pub KilosAsked : (taken kilos : List ℕ) → LineRead → Type 0
+KilosAsked taken kilos l =
+    (getD (l .words) 0 0 < SIZE) × (getD (l .words) 1 0 < SIZE) × (getD (l .words) 2 0 ≤ KILOS)
+    × (getD taken (getD (l .words) 0 0) 0 ≤ MOST) × (getD kilos (getD (l .words) 0 0 * SIZE + getD (l .words) 1 0) 0 ≤ MOST)
 
 -- above the first line
 abbrev pub worksAtStart : Works

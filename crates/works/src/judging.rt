@@ -4,7 +4,7 @@ ghost use Rattle.lines.specs.Records.{letter};
 ghost use Rattle.quantity.specs.Limits.{limits};
 ghost use Rattle.judge.specs.Code.{refusalNumber, kindNumber, readNumber};
 ghost use Rattle.works.specs.Works.{ofProcess, ofPair, aboveAt};
-use goods::PAIRS;
+use goods::KilosByPair;
 use goods::SIZE;
 use judge::kinds::bought_precursor;
 use judge::kinds::heat;
@@ -47,7 +47,7 @@ fn of_process(kilos: &[u64; SIZE], n: u64) -> Kilos
 }
 
 // The kilograms of a pair of processes, 0 where it has no place.
-fn of_pair(kilos: &[u64; PAIRS], from: u64, to: u64) -> Kilos
+fn of_pair(kilos: &KilosByPair, from: u64, to: u64) -> Kilos
     ensures { λ r. ⌜ r .0 ≡ ofPair (now (kilos .entry)) from to ⌝ }
 {
     if from < SIZE as u64 {
@@ -58,50 +58,42 @@ fn of_pair(kilos: &[u64; PAIRS], from: u64, to: u64) -> Kilos
     Kilos(0)
 }
 
-// Rows 5 to 13 of a G line.
-fn good(
+// What the lines above say of a line, read from the state: of an own good the kilograms too.
+pub fn above_line<'a>(
     lines: usize,
     count: usize,
-    outputs: &[u64; SIZE],
-    taken: &[u64; SIZE],
-    kilos: &[u64; PAIRS],
-    fields: usize,
+    outputs: &'a [u64; SIZE],
+    taken: &'a [u64; SIZE],
+    kilos: &KilosByPair,
+    kind: Kind,
     words: &[u64; 8],
-) -> Refusal
-    ensures { λ r. ⌜ refusalNumber r ≡ kindNumber limits Kind.OwnGood fields (now (words .entry)) (aboveAt lines count (now (outputs .entry)) (now (taken .entry)) (now (kilos .entry)) (now (words .entry))) ⌝ }
+) -> Above
+    ensures { λ r. ⌜ r ≡ aboveAt lines count (now (outputs .entry)) (now (taken .entry)) (now (kilos .entry)) kind (now (words .entry)) ⌝ }
 {
+    if letter_of(kind) != b'G' {
+        return Above {
+            lines,
+            processes: count,
+            output: Kilos(0),
+            taken: Kilos(0),
+            pair: Kilos(0),
+        };
+    }
     let from = words[0];
     let to = words[1];
-    let above = Above {
+    Above {
         lines,
         processes: count,
         output: of_process(outputs, from),
         taken: of_process(taken, from),
         pair: of_pair(kilos, from, to),
-    };
-    own_good(fields, words, above)
+    }
 }
 
-// Rows 4 to 13 of a line of this kind.
-fn kind_refusal(
-    lines: usize,
-    count: usize,
-    outputs: &[u64; SIZE],
-    taken: &[u64; SIZE],
-    kilos: &[u64; PAIRS],
-    kind: Kind,
-    fields: usize,
-    words: &[u64; 8],
-) -> Refusal
-    ensures { λ r. ⌜ refusalNumber r ≡ kindNumber limits kind fields (now (words .entry)) (aboveAt lines count (now (outputs .entry)) (now (taken .entry)) (now (kilos .entry)) (now (words .entry))) ⌝ }
+// Rows 4 to 13 of a line of this kind, under the lines above.
+fn kind_refusal(above: Above, kind: Kind, fields: usize, words: &[u64; 8]) -> Refusal
+    ensures { λ r. ⌜ refusalNumber r ≡ kindNumber limits kind fields (now (words .entry)) above ⌝ }
 {
-    let above = Above {
-        lines,
-        processes: count,
-        output: Kilos(0),
-        taken: Kilos(0),
-        pair: Kilos(0),
-    };
     match kind {
         Kind::Process => process(fields, words, above),
         Kind::SourceStream => source_stream(fields, words, above),
@@ -109,30 +101,21 @@ fn kind_refusal(
         Kind::WasteGas => waste_gas(fields, words, above),
         Kind::Power => power(fields, words, above),
         Kind::BoughtPrecursor => bought_precursor(fields, words, above),
-        Kind::OwnGood => good(lines, count, outputs, taken, kilos, fields, words),
+        Kind::OwnGood => own_good(fields, words, above),
         Kind::Unknown => Refusal::UnknownKind,
     }
 }
 
-// Rows 2 to 13 of a line in a sheet of `size` bytes. Of the lines above it `count` are P lines; `outputs`, `taken` and `kilos` are what those
-// lines say.
-pub fn line_refusal(
-    lines: usize,
-    count: usize,
-    outputs: &[u64; SIZE],
-    taken: &[u64; SIZE],
-    kilos: &[u64; PAIRS],
-    l: LineRead,
-    size: usize,
-) -> Refusal
-    ensures { λ r. ⌜ refusalNumber r ≡ readNumber limits l size (aboveAt lines count (now (outputs .entry)) (now (taken .entry)) (now (kilos .entry)) (l .words)) ⌝ }
+// Rows 2 to 13 of a line in a sheet of `size` bytes, under the lines above.
+pub fn line_refusal(above: Above, l: LineRead, size: usize) -> Refusal
+    ensures { λ r. ⌜ refusalNumber r ≡ readNumber limits l size above ⌝ }
 {
-    if LINES <= lines {
+    if LINES <= above.lines {
         return Refusal::TooManyLines;
     }
     if l.end == size {
         return Refusal::LacksLF;
     }
     let kind = l.kind;
-    kind_refusal(lines, count, outputs, taken, kilos, kind, l.count, &l.words)
+    kind_refusal(above, kind, l.count, &l.words)
 }

@@ -2,7 +2,7 @@
 pub mod judging;
 pub mod noting;
 
-use goods::SIZE;
+use goods::KilosByProcess;
 use ledger::Ledger;
 
 // What the lines above say: how many they are, how many of them are P lines, the kilograms of each process's output and
@@ -10,7 +10,7 @@ use ledger::Ledger;
 pub struct Works {
     pub lines: usize,
     pub count: usize,
-    pub outputs: [u64; SIZE],
-    pub taken: [u64; SIZE],
+    pub outputs: KilosByProcess,
+    pub taken: KilosByProcess,
     pub ledger: Ledger,
 }

@@ -1,21 +1,18 @@
 // One line more: the output that a P line states, the kilograms that a G line takes.
 ghost use mathlib.Core.Path.{_≡_};
-ghost use Prim.Native.Nat.{_+_, _*_, _≤_, _<_};
-ghost use lib.ListN.{getD};
-ghost use Rattle.goods.specs.Settling.{SIZE};
-ghost use Rattle.ledger.specs.Ledger.{added};
+ghost use Prim.Native.Nat.{_≤_};
+ghost use Rattle.ledger.specs.Columns.{AtMost};
 ghost use Rattle.quantity.specs.Limits.{limits};
 ghost use Rattle.entries.specs.Read.{recordRead, Shaped};
-ghost use Rattle.works.specs.Works.{outputNoted, takenNoted, pairNoted, countAfter, outputsAfter, takenAfter, kilosAfter, KILOS, MOST, Roomy};
+ghost use Rattle.works.specs.Works.{outputNoted, takenNoted, pairNoted, countAfter, outputsAfter, takenAfter, kilosAfter, OutputAsked, KilosAsked, MOST};
 use super::judging::letter_of;
-use goods::PAIRS;
+use goods::KilosByPair;
 use goods::SIZE;
 use lines::LineRead;
 
 // A P line: the output of its process.
 fn note_output(outputs: &mut [u64; SIZE], l: LineRead)
-    requires { ⌜ (getD (l .words) 0 0 < SIZE) × (getD (l .words) 1 0 ≤ KILOS) ⌝ }
-    requires { ⌜ getD (now outputs) (getD (l .words) 0 0) 0 ≤ MOST ⌝ }
+    requires { ⌜ OutputAsked (now outputs) l ⌝ }
     ensures { λ r. ⌜ now (outputs .exit) ≡ outputNoted (now (outputs .entry)) l ⌝ }
 {
     let words = l.words;
@@ -24,9 +21,8 @@ fn note_output(outputs: &mut [u64; SIZE], l: LineRead)
 }
 
 // A G line: kilograms taken of an output, by one process.
-fn note_good(taken: &mut [u64; SIZE], kilos: &mut [u64; PAIRS], l: LineRead)
-    requires { ⌜ (getD (l .words) 0 0 < SIZE) × ((getD (l .words) 1 0 < SIZE) × (getD (l .words) 2 0 ≤ KILOS)) ⌝ }
-    requires { ⌜ (getD (now taken) (getD (l .words) 0 0) 0 ≤ MOST) × (getD (now kilos) (getD (l .words) 0 0 * SIZE + getD (l .words) 1 0) 0 ≤ MOST) ⌝ }
+fn note_good(taken: &mut [u64; SIZE], kilos: &mut KilosByPair, l: LineRead)
+    requires { ⌜ KilosAsked (now taken) (now kilos) l ⌝ }
     ensures taken { λ r. ⌜ now (taken .exit) ≡ takenNoted (now (taken .entry)) l ⌝ }
     ensures pairs { λ r. ⌜ now (kilos .exit) ≡ pairNoted (now (kilos .entry)) l ⌝ }
 {
@@ -37,30 +33,32 @@ fn note_good(taken: &mut [u64; SIZE], kilos: &mut [u64; PAIRS], l: LineRead)
     kilos[from * SIZE + to] += words[2];
 }
 
-// The kilograms of a line noted; the result is how many P lines there are with it.
-pub fn note(
-    count: usize,
-    outputs: &mut [u64; SIZE],
-    taken: &mut [u64; SIZE],
-    kilos: &mut [u64; PAIRS],
-    l: LineRead,
-) -> usize
+// The output of a P line noted; the result is how many P lines there are with it.
+pub fn note_process(outputs: &mut [u64; SIZE], count: usize, l: LineRead) -> usize
     requires { ⌜ Shaped limits (recordRead l) ⌝ }
     requires { ⌜ l .count ≤ 8 ⌝ }
-    requires { ⌜ Roomy count (now outputs) (now taken) (now kilos) ⌝ }
+    requires { ⌜ (count ≤ limits .lines) × AtMost MOST (now outputs) ⌝ }
     ensures count { λ r. ⌜ r ≡ countAfter count l ⌝ }
     ensures outputs { λ r. ⌜ now (outputs .exit) ≡ outputsAfter (now (outputs .entry)) l ⌝ }
+{
+    let kind = l.kind;
+    if letter_of(kind) == b'P' {
+        note_output(outputs, l);
+        return count + 1;
+    }
+    count
+}
+
+// The kilograms of a G line noted.
+pub fn note_own_good(taken: &mut [u64; SIZE], kilos: &mut KilosByPair, l: LineRead)
+    requires { ⌜ Shaped limits (recordRead l) ⌝ }
+    requires { ⌜ l .count ≤ 8 ⌝ }
+    requires { ⌜ AtMost MOST (now taken) × AtMost MOST (now kilos) ⌝ }
     ensures taken { λ r. ⌜ now (taken .exit) ≡ takenAfter (now (taken .entry)) l ⌝ }
     ensures pairs { λ r. ⌜ now (kilos .exit) ≡ kilosAfter (now (kilos .entry)) l ⌝ }
 {
     let kind = l.kind;
-    let letter = letter_of(kind);
-    if letter == b'P' {
-        note_output(outputs, l);
-        return count + 1;
-    }
-    if letter == b'G' {
+    if letter_of(kind) == b'G' {
         note_good(taken, kilos, l);
     }
-    count
 }

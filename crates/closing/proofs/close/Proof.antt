@@ -8,12 +8,13 @@ use lib.ListN.{length, getD}
 use denote.Ref.{now}
 use Rattle.goods.specs.Settling.{SIZE, figures, pairs, Settleable}
 use Rattle.goods.proofs.Sums.{sum-cong}
-use Rattle.closing.specs.Closing.{together, ownDirect, ownIndirect, Pooled}
+use Rattle.ledger.specs.Columns.{together}
+use Rattle.closing.specs.Closing.{ownDirect, ownIndirect, Pooled}
 use Rattle.closing.proofs.Pooling.{own-fits, settleable-cong, pooled-cong}
 use Rattle.closing.proofs.close.Statement.{statement}
 use Rattle.closing.proofs.close.Tie as tie
 
-indirect-size : (c : tie.Start) → length (c .args .t1 .indirect) ≡ SIZE
+indirect-size : (c : tie.Start) → length (c .args .t1 .indirect .0) ≡ SIZE
 indirect-size c = search needs
 
 -- balances are raised
@@ -22,29 +23,29 @@ module _ (c : tie.After-raise-all) where
   start = c .before .before .before .before .before
 
   own-is : (k : ℕ) → 1 ≤ k → k ≤ start .args .count
-      → together (c .raise-all .last .0) (start .args .t1 .«bought_direct») k ≡ ownDirect (start .args .t1) k
-  own-is k l h = ap (λ (n : ℕ). n + getD (start .args .t1 .«bought_direct») k 0) (c .raise-all .ensures .0 .at k l h)
+      → together (c .raise-all .last .0) (start .args .t1 .«bought_direct» .0) k ≡ ownDirect (start .args .t1) k
+  own-is k l h = ap (λ (n : ℕ). n + getD (start .args .t1 .«bought_direct» .0) k 0) (c .raise-all .ensures .0 .at k l h)
 
-  settleable : Settleable (start .args .count) (figures (now (start .args .outputs))) (pairs (now (start .args .kilos)))
-      (together (c .raise-all .last .0) (start .args .t1 .«bought_direct»))
+  settleable : Settleable (start .args .count) (figures (start .args .outputs .0)) (pairs (now (start .args .kilos)))
+      (together (c .raise-all .last .0) (start .args .t1 .«bought_direct» .0))
   settleable = settleable-cong (λ k l h. sym (own-is k l h)) (start .pre .direct)
 
 -- pools of both kinds are settled
 module _ (c : tie.After-pools-from2) where
   abbrev raised : tie.After-raise-all
-  raised = c .before .before .before .before .before .before .before .before .before .before .before .before .before .before .before .before .before .before .before
+  raised = c .before .before .before .before .before .before .before .before .before .before .before .before .before .before .before .before .before .before .before .before .before .before
 
   abbrev first : tie.After-pools-from
-  first = c .before .before .before .before .before .before .before .before .before
+  first = c .before .before .before .before .before .before .before .before .before .before
 
   abbrev PooledOver : (own : ℕ → ℕ) → (pools lefts : List ℕ) → (left : ℕ) → Type 0
   PooledOver =
       let a = start raised .args in
-      Pooled (a .count) (figures (now (a .outputs))) (pairs (now (a .kilos)))
+      Pooled (a .count) (figures (a .outputs .0)) (pairs (now (a .kilos)))
 
   direct-pooled : PooledOver (ownDirect (start raised .args .t1)) (first .pools-from .last .0) (first .pools-from .last .1 .0)
       (first .pools-from .result .0)
-  direct-pooled = pooled-cong (λ k l h. c .before .before .before .before .before .before .before .before .before .before .before .before .add-all .ensures .at k l h ∙ own-is raised k l h) (first .pools-from .ensures)
+  direct-pooled = pooled-cong (λ k l h. c .before .before .before .before .before .before .before .before .before .before .before .before .before .add-all .ensures .at k l h ∙ own-is raised k l h) (first .pools-from .ensures)
 
   indirect-pooled : PooledOver (ownIndirect (start raised .args .t1)) (c .pools-from2 .last .0) (c .pools-from2 .last .1 .0)
       (c .pools-from2 .result .0)
@@ -58,33 +59,33 @@ raise-all-requires c κs = search needs
 
 total-requires : tie.Need-total-requires
 total-requires c κs =
-    let k = c .before in
+    let k = c .before .before in
     (omega (arith, start k .pre .few), subst (λ (n : ℕ). n < 2 ^ 63) (sym (sum-cong _ _ _ (k .raise-all .ensures .1 .at))) (start k .pre .raised))
 
 add-all-requires : tie.Need-add-all-requires
 add-all-requires c κs =
-    let k = c .before .before .before .before .before .before in
+    let k = c .before .before .before .before .before .before .before .before in
     (omega (arith, start k .pre .few), (own-fits (settleable k), refl))
 
 pools-from-requires : tie.Need-pools-from-requires
 pools-from-requires c κs =
     let own = c .before .before .add-all .ensures in
-    let k = c .before .before .before .before .before .before .before .before .before in
+    let k = c .before .before .before .before .before .before .before .before .before .before .before in
     (start k .pre .few, (settleable-cong (λ n l h. sym (own .at n l h)) (settleable k), (own .size, refl)))
 
 add-all-requires-2 : tie.Need-add-all-requires-2
 add-all-requires-2 c κs =
-    let k = c .before .before .before .before .before .before .before .before .before .before .before .before .before .before .before in
+    let k = c .before .before .before .before .before .before .before .before .before .before .before .before .before .before .before .before .before .before in
     (omega (arith, start k .pre .few), (own-fits (start k .pre .indirect), refl))
 
 pools-from-requires-2 : tie.Need-pools-from-requires-2
 pools-from-requires-2 c κs =
     let own = c .before .before .add-all2 .ensures in
-    let k = c .before .before .before .before .before .before .before .before .before .before .before .before .before .before .before .before .before .before in
+    let k = c .before .before .before .before .before .before .before .before .before .before .before .before .before .before .before .before .before .before .before .before .before in
     (start k .pre .few, (settleable-cong (λ n l h. sym (own .at n l h)) (start k .pre .indirect), (own .size, refl)))
 
-add-t33 : tie.Need-add-t33
-add-t33 c = record { fits = omega (arith, left-fits (c .before .before)) }
+add-t34 : tie.Need-add-t34
+add-t34 c = record { fits = omega (arith, left-fits (c .before .before)) }
 
 returns : tie.Need-returns
 returns c =
@@ -102,7 +103,7 @@ returns c =
       indirect-lefts = i .rest;
       left = ap₂ (λ (direct indirect : ℕ). direct + indirect) (d .all) (i .all);
       left-small = left-fits h;
-      total-raised = h .before .before .before .before .before .before .before .before .before .before .before .before .before .before .before .before .before .total .ensures ∙ sum-cong _ _ _ (r .raise-all .ensures .1 .at);
+      total-raised = h .before .before .before .before .before .before .before .before .before .before .before .before .before .before .before .before .before .before .before .total .ensures ∙ sum-cong _ _ _ (r .raise-all .ensures .1 .at);
     }
 
 pub close-spec : {M : Type 1} → statement M
@@ -115,5 +116,5 @@ close-spec =
     pools-from-requires
     add-all-requires-2
     pools-from-requires-2
-    add-t33
+    add-t34
     returns)

@@ -10,11 +10,11 @@ use Rattle.goods.proofs.settle.Statement.{statement}
 use Rattle.goods.proofs.settle.Tie as tie
 
 abbrev Inv-loop : tie.InvT-loop
-Inv-loop pools₀ lefts₀ outputs kilos count i₀ pools lefts i =
-    (1 ≤ i) × (i ≤ count + 1) × (Settling count (figures outputs) (pairs kilos) (figures pools₀) SIZE (i - 1) pools lefts)
+Inv-loop pools₀ lefts₀ kilos count outputs i₀ pools lefts i =
+    (1 ≤ i) × (i ≤ count + 1) × (Settling count (figures (outputs .0)) (pairs kilos) (figures pools₀) SIZE (i - 1) pools lefts)
 
 abbrev μ-loop : tie.MeasureT-loop
-μ-loop pools₀ lefts₀ outputs kilos count i₀ pools lefts i = count + 1 - i
+μ-loop pools₀ lefts₀ kilos count outputs i₀ pools lefts i = count + 1 - i
 
 loop-holds : tie.Need-loop-holds Inv-loop μ-loop
 loop-holds c =

@@ -1,22 +1,20 @@
--- `writer::put_rows` meets its contract. Assumes nothing.
-use mathlib.Core.Path.{_≡_, ap}
+-- `rows::put_rows` meets its contract. Assumes nothing.
+use mathlib.Core.Path.{_≡_, ap, _∙_}
 use mathlib.Core.List.{List}
-use Prim.Native.Nat.{_+_, _-_, _≤_}
+use Prim.Native.Nat.{_+_, _-_, _≤_, _<_}
 use native.Mathlib.Omega.{arith}
 use lib.ListN.{length, take}
 use borrow.Author.Needs.{needs}
+use Rattle.goods.specs.Settling.{SIZE}
 use Rattle.figures.specs.Figures.{FIELDS, tailed}
 use Rattle.figures.specs.declared.Figure.{Figure}
 use Rattle.decimal.specs.Writing.{Put}
 use Rattle.decimal.proofs.Writing.{then, put-none, put-kept}
-use Rattle.rows.specs.Held.{rowHeld, rowsBytes}
-use Rattle.rows.proofs.Rows.{rows-none, rows-more, row-whole, rows-long, rows-within, report-long}
+use Rattle.reckoner.specs.declared.Reckoning.{Reckoning}
+use Rattle.rows.specs.Held.{fieldsOf, rowFields, rowsBytes}
+use Rattle.rows.proofs.Rows.{row-same, rows-none, rows-more, row-whole, rows-long, rows-within, report-long}
 use Rattle.rows.proofs.put_rows.Statement.{statement}
 use Rattle.rows.proofs.put_rows.Tie as tie
-use Rattle.rows.proofs.put_rows.Reads as reads
-use Rattle.rows.proofs.put_rows.Lts as lts
-use Rattle.figures.proofs.put_line.Reads as put-line-reads
-use Rattle.rows.proofs.row_fields.Reads as row-fields-reads
 
 abbrev Inv-loop : tie.InvT-loop
 Inv-loop space₀ r f outputs at₀ k₀ space at k = (k ≤ r .count) × (Put space₀ 0 (rowsBytes r k) space at)
@@ -37,88 +35,79 @@ loop-holds c = (omega arith, rw (rows-none (c .before .before .before .args .r))
 add-k : tie.Need-add-k Inv-loop μ-loop
 add-k c = search needs
 
-mul-t9 : tie.Need-mul-t9 Inv-loop μ-loop
-mul-t9 c = search needs
+-- the process has a place in every column
+place : (c : tie.Then1 Inv-loop μ-loop) → c .before .before .loop .k + 1 < SIZE
+place c = omega (arith, c .before .before .before .before .before .before .pre .0 .few, c .if1 .taken)
 
-array-read-t12 : tie.Need-array-read-t12 Inv-loop μ-loop
-array-read-t12 c = search needs
+kilos-of-requires : tie.Need-kilos-of-requires Inv-loop μ-loop
+kilos-of-requires c κs = place (c .before .before)
 
-mul-t14 : tie.Need-mul-t14 Inv-loop μ-loop
-mul-t14 c = search needs
+grams-of-requires : tie.Need-grams-of-requires Inv-loop μ-loop
+grams-of-requires c κs = place (c .before .before .before .before .before)
 
-element-copy-out-t17 : tie.Need-element-copy-out-t17 Inv-loop μ-loop
-element-copy-out-t17 c = search needs
+grams-of-requires-2 : tie.Need-grams-of-requires-2 Inv-loop μ-loop
+grams-of-requires-2 c κs = place (c .before .before .before .before .before .before .before .before)
 
-mul-t19 : tie.Need-mul-t19 Inv-loop μ-loop
-mul-t19 c = search needs
+grams-of-requires-3 : tie.Need-grams-of-requires-3 Inv-loop μ-loop
+grams-of-requires-3 c κs = place (c .before .before .before .before .before .before .before .before .before .before .before)
 
-element-copy-out-t22 : tie.Need-element-copy-out-t22 Inv-loop μ-loop
-element-copy-out-t22 c = search needs
+grams-of-requires-4 : tie.Need-grams-of-requires-4 Inv-loop μ-loop
+grams-of-requires-4 c κs = place (c .before .before .before .before .before .before .before .before .before .before .before .before .before .before)
 
-mul-t24 : tie.Need-mul-t24 Inv-loop μ-loop
-mul-t24 c = search needs
+grams-of-requires-5 : tie.Need-grams-of-requires-5 Inv-loop μ-loop
+grams-of-requires-5 c κs = place (c .before .before .before .before .before .before .before .before .before .before .before .before .before .before .before .before .before)
 
-element-copy-out-t27 : tie.Need-element-copy-out-t27 Inv-loop μ-loop
-element-copy-out-t27 c = search needs
+grams-of-requires-6 : tie.Need-grams-of-requires-6 Inv-loop μ-loop
+grams-of-requires-6 c κs = place (c .before .before .before .before .before .before .before .before .before .before .before .before .before .before .before .before .before .before .before .before)
 
-mul-t29 : tie.Need-mul-t29 Inv-loop μ-loop
-mul-t29 c = search needs
-
-element-copy-out-t32 : tie.Need-element-copy-out-t32 Inv-loop μ-loop
-element-copy-out-t32 c = search needs
-
-mul-t34 : tie.Need-mul-t34 Inv-loop μ-loop
-mul-t34 c = search needs
-
-element-copy-out-t37 : tie.Need-element-copy-out-t37 Inv-loop μ-loop
-element-copy-out-t37 c = search needs
-
-mul-t39 : tie.Need-mul-t39 Inv-loop μ-loop
-mul-t39 c = search needs
-
-element-copy-out-t42 : tie.Need-element-copy-out-t42 Inv-loop μ-loop
-element-copy-out-t42 c = search needs
-
-mul-t44 : tie.Need-mul-t44 Inv-loop μ-loop
-mul-t44 c = search needs
-
-element-copy-out-t47 : tie.Need-element-copy-out-t47 Inv-loop μ-loop
-element-copy-out-t47 c = search needs
+grams-of-requires-7 : tie.Need-grams-of-requires-7 Inv-loop μ-loop
+grams-of-requires-7 c κs = place (c .before .before .before .before .before .before .before .before .before .before .before .before .before .before .before .before .before .before .before .before .before .before .before)
 
 row-fields-requires : tie.Need-row-fields-requires Inv-loop μ-loop
-unfolding rowHeld
 row-fields-requires c κs =
-    let k = c .before .before .before .before .before .before .before .before .before .before in
+    let k = c .before .before .before .before .before .before .before .before .before .before .before .before .before .before .before .before .before .before .before .before .before .before .before .before .before .before .before in
     let s = k .before .before .before .before in
     let i = k .loop .k + 1 in
     let l : 1 ≤ i = omega arith in
-    let h : i ≤ s .args .r .count = omega arith in
-    (s .pre .0 .made i l h, s .pre .0 .small i l h)
+    let h : i ≤ s .args .r .count = omega (arith, c .before .before .before .before .before .before .before .before .before .before .before .before .before .before .before .before .before .before .before .before .before .before .before .before .before .if1 .taken) in
+    rw (c .before .before .before .before .before .before .before .before .before .before .before .before .before .before .before .before .before .before .before .before .before .before .kilos-of .ensures) (s .pre .0 .made i l h, s .pre .0 .small i l h)
+
+-- the fields are those of the process's line
+module _ (c : tie.After-row-fields Inv-loop μ-loop) where
+  abbrev turn : tie.At-loop Inv-loop μ-loop
+  turn = c .before .before .before .before .before .before .before .before .before .before .before .before .before .before .before .before .before .before .before .before .before .before .before .before .before .before .before .before
+
+  abbrev reckoning : Reckoning
+  reckoning = c .before .before .before .before .before .before .before .before .before .before .before .before .before .before .before .before .before .before .before .before .before .before .before .before .before .before .before .before .before .before .before .before .args .r
+
+  fields-are : c .row-fields .result ≡ rowFields reckoning (turn .loop .k + 1)
+  fields-are =
+      c .row-fields .ensures
+      ∙ ap fieldsOf (row-same reckoning (turn .loop .k + 1) _ _ _ _ _ _ _ _ (c .before .before .before .before .before .before .before .before .before .before .before .before .before .before .before .before .before .before .before .before .before .before .before .kilos-of .ensures) (c .before .before .before .before .before .before .before .before .before .before .before .before .before .before .before .before .before .before .before .before .grams-of .ensures) (c .before .before .before .before .before .before .before .before .before .before .before .before .before .before .before .before .before .grams-of2 .ensures) (c .before .before .before .before .before .before .before .before .before .before .before .before .before .before .grams-of3 .ensures) (c .before .before .before .before .before .before .before .before .before .before .before .grams-of4 .ensures) (c .before .before .before .before .before .before .before .before .grams-of5 .ensures) (c .before .before .before .before .before .grams-of6 .ensures) (c .before .before .grams-of7 .ensures))
 
 put-line-requires : tie.Need-put-line-requires Inv-loop μ-loop
-unfolding rowHeld
 put-line-requires c κs =
-    let k = c .before .before .before .before .before .before .before .before .before .before .before in
+    let k = turn c in
     let s = k .before .before .before .before in
-    let r = s .args .r in
+    let r = reckoning c in
     let i = k .loop .k in
-    let h : i + 1 ≤ r .count = omega arith in
-    let w = ap (λ (l : List Figure). length (tailed (take FIELDS l))) (c .row-fields .ensures) in
+    let h : i + 1 ≤ r .count = omega (arith, c .before .before .before .before .before .before .before .before .before .before .before .before .before .before .before .before .before .before .before .before .before .before .before .before .before .before .if1 .taken) in
+    let w = ap (λ (l : List Figure). length (tailed (take FIELDS l))) (fields-are c) in
     let v = ap (λ (l : List Figure). length (tailed l)) (row-whole r (i + 1)) in
     (omega arith, omega (arith, long k, k .loop .inv .1 .place, w, v, rows-long r i, rows-within r (i + 1) (r .count) h, report-long r, s .pre .1))
 
 loop-less : tie.Need-loop-less Inv-loop μ-loop
-loop-less c = search needs
+loop-less c = omega (arith, c .before .before .before .before .before .before .before .before .before .before .before .before .before .before .before .before .before .before .before .before .before .before .before .before .before .before .before .before .before .if1 .taken)
 
 loop-again : tie.Need-loop-again Inv-loop μ-loop
-unfolding rowHeld
 loop-again c =
-    let k = c .before .before .before .before .before .before .before .before .before .before .before .before .before .before in
+    let row = c .before .before .before in
+    let k = turn row in
     let s = k .before .before .before .before in
     let i = k .loop .k in
     let w = rows-within (s .args .r) i (s .args .r .count) (k .loop .inv .0) in
-    let p = rw (c .before .before .before .row-fields .ensures, row-whole (s .args .r) (i + 1)) at (c .before .before .put-line .ensures) in
-    let t = c .before .before .before .before .before .before .before .before .before .before .before .before .if1 .taken in
+    let p = rw (fields-are row, row-whole (s .args .r) (i + 1)) at (c .before .before .put-line .ensures) in
+    let t = c .before .before .before .before .before .before .before .before .before .before .before .before .before .before .before .before .before .before .before .before .before .before .before .before .before .before .before .before .before .if1 .taken in
     (omega arith, rw (rows-more (s .args .r) i) (then (omega (arith, w, report-long (s .args .r), s .pre .1)) (k .loop .inv .1) p))
 
 same-length : tie.Need-same-length Inv-loop μ-loop
@@ -138,22 +127,14 @@ put-rows-spec =
     μ-loop
     loop-holds
     add-k
-    mul-t9
-    array-read-t12
-    mul-t14
-    element-copy-out-t17
-    mul-t19
-    element-copy-out-t22
-    mul-t24
-    element-copy-out-t27
-    mul-t29
-    element-copy-out-t32
-    mul-t34
-    element-copy-out-t37
-    mul-t39
-    element-copy-out-t42
-    mul-t44
-    element-copy-out-t47
+    kilos-of-requires
+    grams-of-requires
+    grams-of-requires-2
+    grams-of-requires-3
+    grams-of-requires-4
+    grams-of-requires-5
+    grams-of-requires-6
+    grams-of-requires-7
     row-fields-requires
     put-line-requires
     loop-less

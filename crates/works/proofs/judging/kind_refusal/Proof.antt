@@ -4,44 +4,35 @@ use Prim.Native.Nat.{ℕ}
 use borrow.Author.Needs.{needs}
 use Rattle.lines.specs.declared.Kind.{Kind}
 use Rattle.quantity.specs.Limits.{limits}
-use Rattle.judge.specs.Code.{fieldsNumber, orderNumber, kindNumber}
-use Rattle.works.specs.Works.{aboveAt}
+use Rattle.judge.specs.Code.{fieldsNumber, kindNumber}
 use Rattle.works.proofs.judging.kind_refusal.Statement.{statement}
 use Rattle.works.proofs.judging.kind_refusal.Tie as tie
 
 -- the number of a line of this kind
 abbrev number : tie.Start → Kind → ℕ
 number s k =
-    kindNumber limits k (s .args .fields) (s .args .words .now)
-    (aboveAt (s .args .lines) (s .args .count) (s .args .outputs .now) (s .args .taken .now) (s .args .kilos .now) (s .args .words .now))
+    kindNumber limits k (s .args .fields) (s .args .words .now) (s .args .above)
 
 returns : tie.Need-returns
-unfolding orderNumber
 returns c = c .process .ensures ∙ ap (number (c .before .before .before)) (sym (c .before .enum-told .given .1))
 
 returns-2 : tie.Need-returns-2
-unfolding orderNumber
 returns-2 c = c .source-stream .ensures ∙ ap (number (c .before .before .before)) (sym (c .before .enum-told2 .given .1))
 
 returns-3 : tie.Need-returns-3
-unfolding orderNumber
 returns-3 c = c .heat .ensures ∙ ap (number (c .before .before .before)) (sym (c .before .enum-told3 .given .1))
 
 returns-4 : tie.Need-returns-4
-unfolding orderNumber
 returns-4 c = c .waste-gas .ensures ∙ ap (number (c .before .before .before)) (sym (c .before .enum-told4 .given .1))
 
 returns-5 : tie.Need-returns-5
-unfolding orderNumber
 returns-5 c = c .power .ensures ∙ ap (number (c .before .before .before)) (sym (c .before .enum-told5 .given .1))
 
 returns-6 : tie.Need-returns-6
-unfolding orderNumber
 returns-6 c = c .bought-precursor .ensures ∙ ap (number (c .before .before .before)) (sym (c .before .enum-told6 .given .1))
 
 returns-7 : tie.Need-returns-7
-unfolding orderNumber
-returns-7 c = c .good2 .ensures ∙ ap (number (c .before .before .before)) (sym (c .before .enum-told7 .given .1))
+returns-7 c = c .own-good .ensures ∙ ap (number (c .before .before .before)) (sym (c .before .enum-told7 .given .1))
 
 returns-8 : tie.Need-returns-8
 unfolding fieldsNumber

@@ -10,16 +10,16 @@ use Rattle.works.proofs.judging.line_refusal.Tie as tie
 
 returns : tie.Need-returns
 unfolding shapeNumber
-returns c = simp (lt-ltb (limits .lines) (suc (c .before .args .lines)) (omega arith))
+returns c = simp (lt-ltb (limits .lines) (suc (c .before .before .args .above .lines)) (omega arith))
 
 returns-2 : tie.Need-returns-2
 unfolding shapeNumber
-returns-2 c = simp (le-ltb (limits .lines) (suc (c .before .before .args .lines)) (omega arith), eq-eqb _ _ (c .if2 .taken))
+returns-2 c = simp (le-ltb (limits .lines) (suc (c .before .before .before .args .above .lines)) (omega arith), eq-eqb _ _ (c .if2 .taken))
 
 returns-3 : tie.Need-returns-3
 unfolding shapeNumber
 returns-3 c =
-    simp (le-ltb (limits .lines) (suc (c .before .before .before .before .before .args .lines)) (omega arith), ne-eqb _ _ (c .before .before .before .if2 .left))
+    simp (le-ltb (limits .lines) (suc (c .before .before .before .before .before .before .args .above .lines)) (omega arith), ne-eqb _ _ (c .before .before .before .if2 .left))
     (c .kind-refusal .ensures)
 
 pub line-refusal-spec : {M : Type 1} → statement M

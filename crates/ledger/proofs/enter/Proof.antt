@@ -1,0 +1,32 @@
+use mathlib.Core.Path.{_≡_}
+use Prim.Native.Nat.{_≤_}
+use native.Mathlib.Omega.{arith}
+use borrow.Author.Needs.{needs}
+use lib.IntN.{ℤ, pos, natAbs, _+ℤ_, _-ℤ_}
+use mir.Syntax.{w64}
+use mir.Val.{toZ, ofZ}
+use Rattle.ledger.proofs.Sizes.{kept, size-plus, size-minus}
+use Rattle.ledger.proofs.enter.Statement.{statement}
+use Rattle.ledger.proofs.enter.Tie as tie
+use Rattle.ledger.proofs.enter.Reads as reads
+use Rattle.ledger.proofs.enter.Lts as lts
+use Rattle.ledger.proofs.changed.Reads as changed-reads
+
+held-fits : (c : tie.Start) → toZ w64 (ofZ w64 (c .args .entered .now)) ≡ c .args .entered .now
+held-fits c = kept _ (omega (arith, c .pre .0))
+
+changed-requires : tie.Need-changed-requires
+changed-requires c κs = rw (held-fits (c .before)) (omega (arith, c .before .pre .0), (omega (arith, c .before .pre .1 .entering), omega (arith, c .before .pre .1 .leaving)))
+
+returns : tie.Need-returns
+returns c =
+    let k = c .before .before .before in
+    let e = k .args .e in
+    let more = k .args .entered .now +ℤ pos (e .entering .0) in
+    let is = (simp (held-fits k) at (c .before .changed .ensures)) in
+    rw is
+    (kept (more -ℤ pos (e .leaving .0))
+    (omega (arith, size-minus more (e .leaving .0), size-plus (k .args .entered .now) (e .entering .0), k .pre .0, k .pre .1 .entering, k .pre .1 .leaving)))
+
+pub enter-spec : {M : Type 1} → statement M
+enter-spec = tie.close (tie.spec changed-requires returns)
