@@ -6,19 +6,20 @@ use native.Mathlib.Omega.{arith}
 use lib.ListN.{length}
 use Rattle.lines.specs.Records.{Record}
 use Rattle.sheet.specs.Refusals.{sumOf}
-use Rattle.sheet.proofs.First.{All}
+use Rattle.sheet.specs.Verdict.{All}
 use Rattle.goods.specs.Sums.{sumTo, onlyAt}
 use Rattle.goods.proofs.Sums.{sum-add, sum-ext, sum-le, at-sum-le}
 use Rattle.attribution.specs.Attribution.{direct, indirect, raised, boughtDirect, boughtIndirect}
 use Rattle.attribution.specs.Reckoning.{processCount, totalRaised}
 use Rattle.entries.specs.Entries.{entry}
 use Rattle.attribution.proofs.Sums.{of-add, of-le, sum-swap}
-use Rattle.attribution.proofs.Entries.{plus, minus, figures}
+use Rattle.attribution.proofs.EveryKind.{plus, minus}
+use Rattle.attribution.proofs.Entries.{figures}
 use Rattle.attribution.proofs.Works.{direct-is, raised-is}
 
 -- the grams that a line puts into processes, and those that it takes from them
 abbrev pub intoProcesses : Record → ℕ
-intoProcesses r = entry r .charge .0 + entry r .power .0 + entry r .direct .0 + entry r .indirect .0
+intoProcesses r = entry r .charge .0 + entry r .electricity .0 + entry r .direct .0 + entry r .indirect .0
 
 abbrev pub outOfProcesses : Record → ℕ
 outOfProcesses r = entry r .credit .0
@@ -37,16 +38,16 @@ into-pools-le n rs =
       sum-add n (direct rs) (boughtDirect rs),
       sum-add n (indirect rs) (boughtIndirect rs),
       sum-le n (direct rs) (λ k. sumOf (plus k) rs) (λ k l h. omega (arith, direct-is rs k)),
-      sum-ext n (indirect rs) (λ k. sumOf (λ r. onlyAt k (entry r .user) (entry r .power .0)) rs) (λ k. figures k rs .used),
+      sum-ext n (indirect rs) (λ k. sumOf (λ r. onlyAt k (entry r .user) (entry r .electricity .0)) rs) (λ k. figures k rs .used),
       sum-ext n (boughtDirect rs) (λ k. sumOf (λ r. onlyAt k (entry r .buyer) (entry r .direct .0)) rs) (λ k. figures k rs .direct),
       sum-ext n (boughtIndirect rs) (λ k. sumOf (λ r. onlyAt k (entry r .buyer) (entry r .indirect .0)) rs) (λ k. figures k rs .indirect),
       over-all n (λ r. entry r .charged) (λ r. entry r .charge .0) rs,
-      over-all n (λ r. entry r .user) (λ r. entry r .power .0) rs,
+      over-all n (λ r. entry r .user) (λ r. entry r .electricity .0) rs,
       over-all n (λ r. entry r .buyer) (λ r. entry r .direct .0) rs,
       over-all n (λ r. entry r .buyer) (λ r. entry r .indirect .0) rs,
-      of-add (λ r. entry r .charge .0) (λ r. entry r .power .0) rs,
-      of-add (λ r. entry r .charge .0 + entry r .power .0) (λ r. entry r .direct .0) rs,
-      of-add (λ r. entry r .charge .0 + entry r .power .0 + entry r .direct .0) (λ r. entry r .indirect .0) rs,
+      of-add (λ r. entry r .charge .0) (λ r. entry r .electricity .0) rs,
+      of-add (λ r. entry r .charge .0 + entry r .electricity .0) (λ r. entry r .direct .0) rs,
+      of-add (λ r. entry r .charge .0 + entry r .electricity .0 + entry r .direct .0) (λ r. entry r .indirect .0) rs,
     )
 
 pub raised-le : (rs : List Record) → totalRaised rs ≤ sumOf outOfProcesses rs

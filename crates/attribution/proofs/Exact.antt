@@ -10,13 +10,12 @@ use lib.Dec.{eqb, ltb, le→leb, lt→ltb}
 use lib.IntN.{ℤ, pos, negsuc}
 use lib.Signed.{_≤ℤ_, _<ℤ_}
 use borrow.Author.Tests.{eqb-true, eqb-false, ltb-true, ltb-false}
-use Rattle.quantity.proofs.Weights.{credit-below-charge}
 use Rattle.decimal.proofs.Bools.{never}
-use Rattle.lines.specs.Records.{Field, Record, numberAt, is}
+use Rattle.lines.specs.Records.{Record}
 use Rattle.sheet.specs.Refusals.{sumOf, from, to}
-use Rattle.lines.specs.declared.Kind.{Kind}
-use Rattle.lines.specs.declared.Kind.the-variants.{Process, SourceStream, Heat, WasteGas, Power, BoughtPrecursor, OwnGood, Unknown}
-use Rattle.sheet.proofs.First.{All}
+use Rattle.sheet.specs.Kinds.{WasteGas, is}
+use Rattle.sheet.proofs.Table.{kind-is}
+use Rattle.sheet.specs.Verdict.{All}
 use Rattle.ledger.specs.Raising.{gramsAdded}
 use Rattle.entries.specs.Weighed.{chargeOf, creditOf}
 use Rattle.attribution.specs.Attribution.{balance, raised}
@@ -24,7 +23,8 @@ use Rattle.attribution.specs.Reckoning.{processCount, totalLeft, entered
 use Rattle.attribution.proofs.Differences.{diff, diff-pos, diff-eq, diff-inj, diff-ge, diff-lt}
 use Rattle.goods.proofs.Sums.{sum-zero-at, sum-zero-all}
 use Rattle.entries.specs.Entries.{entry}
-use Rattle.attribution.proofs.Entries.{recordIs, Valid, figures, entered-is}
+use Rattle.attribution.proofs.EveryKind.{parts-of, Valid, gas-credited}
+use Rattle.attribution.proofs.Entries.{figures, entered-is}
 use Rattle.attribution.proofs.Valid.{Accepted}
 use Rattle.attribution.proofs.Works.{conserved}
 
@@ -43,8 +43,8 @@ pub record NothingAdded (rs : List Record) : Type 0 where
 
 -- ---- uncredited is 0 exactly when no waste gas passed between two processes
 
-lost-none : (f t charge credit : ℕ) → credit < charge → (cond (eqb 0 f || eqb 0 t) 0 (charge - credit) ≡ 0) ↔ ((1 ≤ f) → (1 ≤ t) → ⊥)
-lost-none f t charge credit lt = go (eqb 0 f) refl (eqb 0 t) refl
+uncredited-none : (f t charge credit : ℕ) → credit < charge → (cond (eqb 0 f || eqb 0 t) 0 (charge - credit) ≡ 0) ↔ ((1 ≤ f) → (1 ≤ t) → ⊥)
+uncredited-none f t charge credit lt = go (eqb 0 f) refl (eqb 0 t) refl
   where
     go : (a : Bool) → eqb 0 f ≡ a → (b : Bool) → eqb 0 t ≡ b → (cond (a || b) 0 (charge - credit) ≡ 0) ↔ ((1 ≤ f) → (1 ≤ t) → ⊥)
     go true p b q = let u = eqb-true 0 f p in (λ e x y. omega arith, λ h. refl)
@@ -54,27 +54,30 @@ lost-none f t charge credit lt = go (eqb 0 f) refl (eqb 0 t) refl
         let w = eqb-false 0 t q in
         (λ e x y. omega arith, λ h. absurd (h (omega arith) (omega arith)))
 
-lost-zero : (n : ℕ) (k : Kind) (said : List Field) → Valid n (recordIs k said)
-    → (entry (recordIs k said) .lost .0 ≡ 0) ↔ (¬ GasBetween (recordIs k said))
-unfolding chargeOf creditOf
-lost-zero n Process said v = (λ e g. never (g .gas), λ h. refl)
-lost-zero n SourceStream said v = (λ e g. never (g .gas), λ h. refl)
-lost-zero n Heat said v = (λ e g. never (g .gas), λ h. refl)
-lost-zero n WasteGas said v =
-    let r : Record = recordIs WasteGas said in
-    let l = lost-none (from r) (to r) _ _ (credit-below-charge (numberAt r 2) (v .3)) in
-    (λ e g. l .0 e (g .from-process) (g .to-process), λ h. l .1 (λ f t. h (record { gas = refl; from-process = f; to-process = t })))
-lost-zero n Power said v = (λ e g. never (g .gas), λ h. refl)
-lost-zero n BoughtPrecursor said v = (λ e g. never (g .gas), λ h. refl)
-lost-zero n OwnGood said v = (λ e g. never (g .gas), λ h. refl)
-lost-zero n Unknown said v = absurd v
+uncredited-zero : (n : ℕ) (r : Record) → Valid n r → (entry r .uncredited .0 ≡ 0) ↔ (¬ GasBetween r)
+unfolding chargeOf
+uncredited-zero n r v = go (is WasteGas r) refl (parts-of 0 r .7)
+  where
+    either : (b : Bool) (credit : ℕ) → cond b 0 (0 - credit) ≡ 0
+    either true credit = refl
+    either false credit = omega arith
 
-lost-all : (n : ℕ) (rs : List Record) → All (Valid n) rs → (sumOf (λ r. entry r .lost .0) rs ≡ 0) ↔ All (λ r. ¬ GasBetween r) rs
+    go : (t : Bool) → is WasteGas r ≡ t → cond (eqb 0 (from r) || eqb 0 (to r)) 0 (chargeOf r - creditOf r) ≡ entry r .uncredited .0
+        → (entry r .uncredited .0 ≡ 0) ↔ (¬ GasBetween r)
+    go true e p =
+        let k = kind-is WasteGas r e in
+        let l = uncredited-none (from r) (to r) (chargeOf r) (creditOf r) (gas-credited r k (rw k at v .3)) in
+        (λ z g. l .0 (p ∙ z) (g .from-process) (g .to-process), λ h. sym p ∙ l .1 (λ f t. h (record { gas = e; from-process = f; to-process = t })))
+    go false e p =
+        let none : chargeOf r ≡ 0 = rw e in
+        (λ z g. never (sym e ∙ g .gas), λ h. sym p ∙ rw none (either (eqb 0 (from r) || eqb 0 (to r)) (creditOf r)))
+
+uncredited-all : (n : ℕ) (rs : List Record) → All (Valid n) rs → (sumOf (λ r. entry r .uncredited .0) rs ≡ 0) ↔ All (λ r. ¬ GasBetween r) rs
 unfolding sumOf
-lost-all n [] v = (λ e. tt, λ h. refl)
-lost-all n (r ∷ rs) v =
-    let a = lost-zero n (r .kind) (r .said) (v .0) in
-    let b = lost-all n rs (v .1) in
+uncredited-all n [] v = (λ e. tt, λ h. refl)
+uncredited-all n (r ∷ rs) v =
+    let a = uncredited-zero n r (v .0) in
+    let b = uncredited-all n rs (v .1) in
     (λ e. (a .0 (omega arith), b .0 (omega arith)), λ h. let x = a .1 (h .0) in let y = b .1 (h .1) in omega arith)
 
 -- ---- raised is 0 exactly when no balance is below zero
@@ -97,8 +100,8 @@ module _ (rs : List Record) (ok : Accepted rs) where
   nothing-added : (totalRaised rs + uncredited rs ≡ 0) ↔ NothingAdded rs
   unfolding totalRaised raised
   nothing-added =
-      let lost = figures 0 rs .lost in
-      let l = lost-all (processCount rs) rs (ok .valid) in (
+      let sums = figures 0 rs .uncredited in
+      let l = uncredited-all (processCount rs) rs (ok .valid) in (
         λ e. record {
           balances = λ k a b. not-below (balance rs k) .0 (sum-zero-at (processCount rs) (raised rs) (omega arith) k a b);
           no-gas = l .0 (omega arith);

@@ -2,6 +2,7 @@
 pub mod Cases
 pub mod Differences
 pub mod Sums
+pub mod EveryKind
 pub mod Entries
 pub mod Valid
 pub mod Works

@@ -8,8 +8,8 @@ use lib.Signed.{_<ℤ_}
 use Rattle.quantity.specs.Limits.{Limits}
 use Rattle.lines.specs.Records.{recordsOf}
 use Rattle.sheet.specs.Verdict.{sheetChecks}
-use Rattle.sheet.proofs.First.{All, Passes}
-use Rattle.sheet.proofs.Passed.{sheet-fine}
+use Rattle.sheet.specs.Verdict.{All, Passes}
+use Rattle.sheet.proofs.Passed.{sheet-passed}
 use Rattle.attribution.specs.Reckoning.{Totals, reckoning}
 use Rattle.attribution.proofs.Valid.{Accepted, sheet-accepted}
 use Rattle.attribution.proofs.Works.{left-is-entered-raised-uncredited}
@@ -21,7 +21,7 @@ totalsOf sheet = reckoning (recordsOf sheet) .totals
 
 module _ (limits : Limits) (sheet : List ℕ) (passed : All Passes (sheetChecks limits sheet)) where
   ok : Accepted (recordsOf sheet)
-  ok = sheet-accepted limits sheet (sheet-fine limits sheet passed)
+  ok = sheet-accepted limits sheet (sheet-passed limits sheet passed)
 
   -- left = entered + raised + uncredited
   pub third-property : pos (totalsOf sheet .left)

@@ -1,29 +1,26 @@
 -- What an accepted sheet gives the reckoner: every line is valid, and no more is taken of a good than its output. Assumes nothing.
-use mathlib.Core.Path.{_≡_, refl, sym}
+use mathlib.Core.Path.{_≡_, refl}
 use mathlib.Core.Logic.{_⊎_, inl, inr}
 use mathlib.Core.Bool.{Bool, true, false, cond, _&&_, _||_, not}
 use mathlib.Core.List.{List, [], _∷_, map}
 use Prim.Native.Nat.{ℕ, suc, _+_, _≤_}
 use native.Mathlib.Omega.{arith}
-use lib.Dec.{eqb, ltb, leb}
+use lib.Dec.{eqb, ltb}
 use lib.ListN.{length}
-use borrow.Author.Tests.{eqb-true, eqb-false, ltb-true, ltb-false, leb-true, not-false}
-use Rattle.decimal.proofs.Bools.{never, and-both, or-neither, or-either}
+use borrow.Author.Tests.{eqb-true, ltb-false, not-false}
+use Rattle.decimal.proofs.Bools.{never, or-neither, or-either}
 use Rattle.quantity.specs.Limits.{Limits}
 use Rattle.lines.specs.Lines.{Line, linesOf}
-use Rattle.lines.specs.Records.{Field, Record, recordOf, recordsOf, numberAt, is}
-use Rattle.sheet.specs.Kinds.{rules, rulesOf}
-use Rattle.sheet.specs.Refusals.{anyOf, sumOf, process, from, to, outputIn, takenIn, hasProcess, unknownKind, processNotNext, missingProcess, endsNotAllowed, outputExceeded}
-use Rattle.sheet.specs.Verdict.{fieldChecks}
-use Rattle.lines.specs.declared.Kind.{Kind}
-use Rattle.lines.specs.declared.Kind.the-variants.{Process, SourceStream, Heat, WasteGas, Power, BoughtPrecursor, OwnGood, Unknown}
-use Rattle.sheet.proofs.First.{All, Passes}
-use Rattle.sheet.proofs.Passed.{Fine, AllFine, FineSheet, fields-in-range}
+use Rattle.lines.specs.Records.{Record, recordOf, recordsOf, numberAt}
+use Rattle.sheet.specs.Kinds.{Process, OwnGood, kind, is}
+use Rattle.sheet.specs.Refusals.{anyOf, sumOf, process, from, to, outputIn, takenIn, hasProcess, processNotNext, outputExceeded}
+use Rattle.sheet.specs.Verdict.{All}
+use Rattle.sheet.proofs.Passed.{PassedLine, PassedLines, PassedSheet}
 use Rattle.goods.specs.Sums.{sumTo, onlyAt}
 use Rattle.attribution.specs.Reckoning.{kilosOf, processCount, output, kilosBetween}
 use Rattle.goods.proofs.Sums.{sum-none, at-sum-le}
 use Rattle.attribution.proofs.Sums.{sum-swap, of-le}
-use Rattle.attribution.proofs.Entries.{recordIs, Valid}
+use Rattle.attribution.proofs.EveryKind.{Valid, valid-of}
 
 -- ---- processes are numbered 1 .. processCount
 
@@ -38,9 +35,9 @@ all-processes (r ∷ above) h =
     let q = or-neither (not (is Process r)) (anyOf (λ q. not (is Process q)) above) h in
     rw (not-false (is Process r) (q .0)) (omega (arith, all-processes above (q .1)))
 
-numbered-next : (limits : Limits) (above : List Record) (r : Record) → processNotNext limits above r ≡ false → Numbered above → Numbered (r ∷ above)
+numbered-next : (above : List Record) (r : Record) → processNotNext above r ≡ false → Numbered above → Numbered (r ∷ above)
 unfolding anyOf processCount sumOf
-numbered-next limits above r next num p h = go (is Process r) next h
+numbered-next above r next num p h = go (is Process r) next h
   where
     go : (b : Bool) → (b && (not (eqb (process r) (suc (length above))) || anyOf (λ q. not (is Process q)) above)) ≡ false
         → ((b && eqb p (process r)) || anyOf (λ q. is Process q && eqb p (process q)) above) ≡ true → p ≤ cond b 1 0 + processCount above
@@ -66,47 +63,16 @@ module _ (limits : Limits) (above : List Record) (num : Numbered above) (n : ℕ
       go (inl e) = omega (arith, eqb-true p 0 e)
       go (inr e) = omega (arith, num p e)
 
-  module _ (k : Kind) (said : List Field) where
-    abbrev r : Record
-    r = recordIs k said
-
-    -- a kind that names one process, and a kind that names two
-    one-named : (not (hasProcess above (process r)) || false) ≡ false → process r ≤ n
-    one-named h = named-in (process r) (or-neither (not (hasProcess above (process r))) false h .0)
-
-    both-named : (not (hasProcess above (from r)) || not (hasProcess above (to r))) ≡ false → (from r ≤ n) × (to r ≤ n)
-    both-named h =
-        let q = or-neither (not (hasProcess above (from r))) (not (hasProcess above (to r))) h in
-        (named-in (from r) (q .0), named-in (to r) (q .1))
-
-  valid-of : (k : Kind) (said : List Field) → unknownKind limits (recordIs k said) ≡ false
-      → length said ≡ length (rulesOf limits (recordIs k said)) → All Passes (fieldChecks limits (suc (length above)) (rulesOf limits (recordIs k said)) said)
-      → missingProcess limits above (recordIs k said) ≡ false → endsNotAllowed limits (recordIs k said) ≡ false → Valid n (recordIs k said)
-  unfolding rules
-  valid-of Process said u c f m e = tt
-  valid-of SourceStream said u c f m e = (fields-in-range limits (suc (length above)) _ said c f 0 (omega arith) refl .0, one-named SourceStream said m)
-  valid-of Heat said u c f m e = both-named Heat said m
-  valid-of WasteGas said u c f m e =
-      let b = both-named WasteGas said m in
-      (b .0, b .1, eqb-false (from (recordIs WasteGas said)) (to (recordIs WasteGas said)) e, fields-in-range limits (suc (length above)) _ said c f 2 (omega arith) refl .0)
-  valid-of Power said u c f m e = both-named Power said m
-  valid-of BoughtPrecursor said u c f m e = (fields-in-range limits (suc (length above)) _ said c f 0 (omega arith) refl .0, one-named BoughtPrecursor said m)
-  valid-of OwnGood said u c f m e =
-      let g : Record = recordIs OwnGood said in
-      let q = and-both (leb 1 (from g)) (ltb (from g) (to g)) (not-false (leb 1 (from g) && ltb (from g) (to g)) e) in
-      (leb-true 1 (from g) (q .0), ltb-true (from g) (to g) (q .1), both-named OwnGood said m .1)
-  valid-of Unknown said u c f m e = absurd (never (sym u))
-
-  line-valid : (l : Line) → Fine limits above l → Valid n (recordOf l)
-  line-valid l f = valid-of (recordOf l .kind) (recordOf l .said) (f .known) (f .counted) (f .fields) (f .named) (f .ends)
+  line-valid : (l : Line) → PassedLine limits above l → Valid n (recordOf l)
+  line-valid l f = valid-of limits above n named-in (kind (recordOf l)) (recordOf l) refl (f .ranges) (f .named) (f .ends)
 
 lines-valid : (limits : Limits) (above : List Record) (ls : List Line) (n : ℕ) → Numbered above
-    → processCount above + processCount (map recordOf ls) ≤ n → AllFine limits above ls → All (Valid n) (map recordOf ls)
+    → processCount above + processCount (map recordOf ls) ≤ n → PassedLines limits above ls → All (Valid n) (map recordOf ls)
 unfolding processCount sumOf
-lines-valid limits above [] n num few fine = tt
-lines-valid limits above (l ∷ ls) n num few fine = (
-  line-valid limits above num n (omega arith) l (fine .0),
-  lines-valid limits (recordOf l ∷ above) ls n (numbered-next limits above (recordOf l) (fine .0 .next) num) (omega arith) (fine .1),
+lines-valid limits above [] n num few passed = tt
+lines-valid limits above (l ∷ ls) n num few passed = (
+  line-valid limits above num n (omega arith) l (passed .0),
+  lines-valid limits (recordOf l ∷ above) ls n (numbered-next above (recordOf l) (passed .0 .next) num) (omega arith) (passed .1),
 )
 
 -- ---- no more is taken of a good than its output
@@ -114,9 +80,9 @@ lines-valid limits above (l ∷ ls) n num few fine = (
 abbrev pub Within : (above : List Record) → Type 0
 Within above = (i : ℕ) → sumOf (takenIn i) above ≤ sumOf (outputIn i) above
 
-within-next : (limits : Limits) (above : List Record) (r : Record) → outputExceeded limits above r ≡ false → Within above → Within (r ∷ above)
+within-next : (above : List Record) (r : Record) → outputExceeded above r ≡ false → Within above → Within (r ∷ above)
 unfolding sumOf
-within-next limits above r h w i = go (is OwnGood r) h (eqb i (from r)) refl
+within-next above r h w i = go (is OwnGood r) h (eqb i (from r)) refl
   where
     go : (b : Bool) → (b && ltb (sumOf (outputIn (from r)) above) (sumOf (takenIn (from r)) above + numberAt r 2)) ≡ false
         → (c : Bool) → eqb i (from r) ≡ c → cond (b && c) (numberAt r 2) 0 + sumOf (takenIn i) above ≤ outputIn i r + sumOf (outputIn i) above
@@ -127,12 +93,12 @@ within-next limits above r h w i = go (is OwnGood r) h (eqb i (from r)) refl
         let l = ltb-false (sumOf (outputIn (from r)) above) (sumOf (takenIn (from r)) above + numberAt r 2) h in
         rw q (omega arith)
 
-lines-within : (limits : Limits) (above : List Record) (ls : List Line) → Within above → AllFine limits above ls
+lines-within : (limits : Limits) (above : List Record) (ls : List Line) → Within above → PassedLines limits above ls
     → (i : ℕ) → sumOf (takenIn i) above + sumOf (takenIn i) (map recordOf ls) ≤ sumOf (outputIn i) above + sumOf (outputIn i) (map recordOf ls)
 unfolding sumOf
-lines-within limits above [] w fine i = omega (arith, w i)
-lines-within limits above (l ∷ ls) w fine i =
-    omega (arith, lines-within limits (recordOf l ∷ above) ls (within-next limits above (recordOf l) (fine .0 .within) w) (fine .1) i)
+lines-within limits above [] w passed i = omega (arith, w i)
+lines-within limits above (l ∷ ls) w passed i =
+    omega (arith, lines-within limits (recordOf l ∷ above) ls (within-next above (recordOf l) (passed .0 .within) w) (passed .1) i)
 
 -- the kilograms that 1 .. n take of a good are taken by its G lines
 taken-of : (n i : ℕ) (r : Record) → sumTo n (λ j. onlyAt i (from r) (onlyAt j (to r) (kilosOf r))) ≤ takenIn i r
@@ -161,7 +127,7 @@ none-numbered : Numbered []
 unfolding anyOf
 none-numbered p h = absurd (never h)
 
-pub sheet-accepted : (limits : Limits) (sheet : List ℕ) → FineSheet limits sheet → Accepted (recordsOf sheet)
+pub sheet-accepted : (limits : Limits) (sheet : List ℕ) → PassedSheet limits sheet → Accepted (recordsOf sheet)
 unfolding recordsOf output sumOf processCount
 sheet-accepted limits sheet f = record {
   valid = lines-valid limits [] (linesOf sheet) (processCount (map recordOf (linesOf sheet))) none-numbered (omega arith) (f .lines);

@@ -8,7 +8,7 @@ use native.Mathlib.Omega.{arith}
 use lib.IntN.{pos, _+ℤ_}
 use Rattle.lines.specs.Records.{Record}
 use Rattle.sheet.specs.Refusals.{sumOf}
-use Rattle.sheet.proofs.First.{All}
+use Rattle.sheet.specs.Verdict.{All}
 use Rattle.goods.specs.Sums.{sumTo, onlyAt}
 use Rattle.ledger.specs.Raising.{gramsAdded, raisedToZero}
 use Rattle.attribution.specs.Attribution.{raised, direct, indirect, boughtDirect, boughtIndirect}
@@ -18,7 +18,8 @@ use Rattle.goods.proofs.Sums.{sum-add, sum-ext, at-sum}
 use Rattle.attribution.proofs.Sums.{sum-swap}
 use Rattle.goods.proofs.Pools.{left-sum}
 use Rattle.entries.specs.Entries.{entry}
-use Rattle.attribution.proofs.Entries.{plus, minus, Valid, Even, valid-even, figures, balance-is, entered-is, forward}
+use Rattle.attribution.proofs.EveryKind.{plus, minus, Valid, Even, valid-even}
+use Rattle.attribution.proofs.Entries.{figures, balance-is, entered-is, forward}
 use Rattle.attribution.proofs.Valid.{Accepted}
 
 -- ---- raising: direct + what is taken = raised + what is added
@@ -34,7 +35,7 @@ raised-is rs k = ap gramsAdded (balance-is rs k) ∙ added-diff _ _
 -- ---- all entries in all processes
 
 abbrev used : (k : ℕ) → Record → ℕ
-used k r = onlyAt k (entry r .user) (entry r .power .0)
+used k r = onlyAt k (entry r .user) (entry r .electricity .0)
 
 abbrev boughtD : (k : ℕ) → Record → ℕ
 boughtD k r = onlyAt k (entry r .buyer) (entry r .direct .0)
@@ -47,7 +48,8 @@ unfoldable over : ℕ → (ℕ → Record → ℕ) → Record → ℕ
 over n f r = sumTo n (λ k. f k r)
 
 each : (n : ℕ) (r : Record) → Even n (entry r)
-    → over n plus r + over n used r + over n boughtD r + over n boughtI r + entry r .leaving .0 ≡ over n minus r + entry r .entering .0 + entry r .lost .0
+    → over n plus r + over n used r + over n boughtD r + over n boughtI r + entry r .leaving .0
+    ≡ over n minus r + entry r .entering .0 + entry r .uncredited .0
 unfolding over
 each n r e =
     omega (
@@ -55,14 +57,14 @@ each n r e =
       e .even,
       at-sum n (entry r .charged) (entry r .charge .0) (e .charged-in),
       at-sum n (entry r .credited) (entry r .credit .0) (e .credited-in),
-      at-sum n (entry r .user) (entry r .power .0) (e .user-in),
+      at-sum n (entry r .user) (entry r .electricity .0) (e .user-in),
       at-sum n (entry r .buyer) (entry r .direct .0) (e .buyer-in),
       at-sum n (entry r .buyer) (entry r .indirect .0) (e .buyer-in),
     )
 
 all-even : (n : ℕ) (rs : List Record) → All (Valid n) rs
     → sumOf (over n plus) rs + sumOf (over n used) rs + sumOf (over n boughtD) rs + sumOf (over n boughtI) rs + sumOf (λ r. entry r .leaving .0) rs
-    ≡ sumOf (over n minus) rs + sumOf (λ r. entry r .entering .0) rs + sumOf (λ r. entry r .lost .0) rs
+    ≡ sumOf (over n minus) rs + sumOf (λ r. entry r .entering .0) rs + sumOf (λ r. entry r .uncredited .0) rs
 unfolding sumOf
 all-even n [] v = refl
 all-even n (r ∷ rs) v = let a = each n r (valid-even n r (v .0)) in let b = all-even n rs (v .1) in omega arith
@@ -98,7 +100,7 @@ module _ (rs : List Record) (ok : Accepted rs) where
         sum-swap n boughtI rs,
         raising,
         all-even n rs (ok .valid),
-        figures 0 rs .lost,
+        figures 0 rs .uncredited,
       )
 
   pub conserved : totalLeft rs + sumOf (λ r. entry r .leaving .0) rs ≡ sumOf (λ r. entry r .entering .0) rs + totalRaised rs + uncredited rs

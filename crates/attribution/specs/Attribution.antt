@@ -1,4 +1,4 @@
--- Document 01, "Attribution".
+-- For the reader. Document 01, "Attribution": balance, raised, direct and indirect attribution.
 use mathlib.Core.Bool.{cond}
 use mathlib.Core.List.{List}
 use Prim.Native.Nat.{ℕ}
@@ -6,7 +6,7 @@ use lib.Dec.{eqb}
 use lib.IntN.{ℤ, pos, _+ℤ_, _-ℤ_}
 use Rattle.lines.specs.Records.{Record}
 use Rattle.ledger.specs.Raising.{raisedToZero, gramsAdded}
-use Rattle.entries.specs.Weighed.{streamOf, heatOf, chargeOf, creditOf, powerOf, boughtDirectOf, boughtIndirectOf}
+use Rattle.entries.specs.Weighed.{streamOf, heatOf, chargeOf, creditOf, electricityOf, boughtDirectOf, boughtIndirectOf}
 use Rattle.sheet.specs.Refusals.{sumOf, process, from, to}
 use Rattle.goods.specs.Sums.{onlyAt}
 use Rattle.attribution.specs.Sums.{sumOfℤ}
@@ -29,11 +29,11 @@ module _ (records : List Record) (k : ℕ) where
   unfoldable pub gasCredited : ℕ
   gasCredited = sumOf (λ r. onlyAt k (from r) (creditOf r)) records
 
-  unfoldable pub powerIn : ℕ
-  powerIn = sumOf (λ r. onlyAt k (to r) (powerOf r)) records
+  unfoldable pub electricityIn : ℕ
+  electricityIn = sumOf (λ r. onlyAt k (to r) (electricityOf r)) records
 
-  unfoldable pub powerOut : ℕ
-  powerOut = sumOf (λ r. onlyAt k (from r) (powerOf r)) records
+  unfoldable pub electricityOut : ℕ
+  electricityOut = sumOf (λ r. onlyAt k (from r) (electricityOf r)) records
 
   unfoldable pub boughtDirect : ℕ
   boughtDirect = sumOf (λ r. onlyAt k (process r) (boughtDirectOf r)) records
@@ -48,7 +48,7 @@ module _ (records : List Record) (k : ℕ) where
   unfoldable pub balance : ℤ
   balance =
       streams records k +ℤ pos (heatIn records k) -ℤ pos (heatOut records k)
-      +ℤ pos (gasCharged records k) -ℤ pos (gasCredited records k) -ℤ pos (powerOut records k)
+      +ℤ pos (gasCharged records k) -ℤ pos (gasCredited records k) -ℤ pos (electricityOut records k)
 
   -- raised
   unfoldable pub raised : ℕ
@@ -60,4 +60,4 @@ module _ (records : List Record) (k : ℕ) where
 
   -- indirect attribution: power in (equation 49)
   unfoldable pub indirect : ℕ
-  indirect = powerIn records k
+  indirect = electricityIn records k

@@ -1,4 +1,4 @@
--- Worked examples that tell document 01's attributions, raising, pools and portions apart, with figures worked out by hand.
+-- Examples. They tell document 01's attributions, raising, pools and portions apart, with figures worked out by hand.
 use mathlib.Core.List.{List, [], _∷_, _++_}
 use Prim.Native.Nat.{ℕ}
 use Prim.Native.String.{String}

@@ -1,4 +1,4 @@
--- Document 01, "Attribution", "Goods and precursors" and the totals of "The report", in the paper's order.
+-- For the reader, in document 01's order: Sums, Attribution, Reckoning, Verdict. Examples: Cases.
 pub mod Sums
 pub mod Attribution
 pub mod Reckoning

@@ -1,16 +1,16 @@
--- Document 01, "Goods and precursors" and "The report": the figures of each process, and the four totals.
+-- For the reader. Document 01, "Goods and precursors" and "The report": the figures of each process, and the four totals.
 use mathlib.Core.Bool.{cond, _||_}
 use mathlib.Core.List.{List, [], _∷_, _++_}
 use Prim.Native.Nat.{ℕ, zero, suc, _+_, _-_}
 use lib.Dec.{eqb}
 use lib.IntN.{ℤ, pos, _+ℤ_, _-ℤ_}
-use Rattle.lines.specs.Records.{Record, numberAt, is}
+use Rattle.lines.specs.Records.{Record, numberAt}
 use Rattle.sheet.specs.Refusals.{sumOf, from, to, outputIn}
-use Rattle.lines.specs.declared.Kind.the-variants.{Process, OwnGood}
+use Rattle.sheet.specs.Kinds.{Process, OwnGood, is}
 use Rattle.goods.specs.Sums.{sumTo, onlyAt}
 use Rattle.attribution.specs.Sums.{sumOfℤ}
 use Rattle.entries.specs.Weighed.{streamOf, chargeOf, creditOf, boughtDirectOf, boughtIndirectOf}
-use Rattle.attribution.specs.Attribution.{heatIn, heatOut, powerIn, powerOut, boughtDirect, boughtIndirect, raised, direct, indirect}
+use Rattle.attribution.specs.Attribution.{heatIn, heatOut, electricityIn, electricityOut, boughtDirect, boughtIndirect, raised, direct, indirect}
 use Rattle.goods.specs.Goods.{poolOf, leftOf}
 
 -- `G,from,to,kg`
@@ -54,9 +54,9 @@ module _ (records : List Record) where
   unfoldable pub entered : ℤ
   entered =
       sumOfℤ streamOf records
-      +ℤ pos (heatOut records 0) +ℤ pos (sumOf (λ r. onlyAt 0 (from r) (chargeOf r)) records) +ℤ pos (powerOut records 0)
+      +ℤ pos (heatOut records 0) +ℤ pos (sumOf (λ r. onlyAt 0 (from r) (chargeOf r)) records) +ℤ pos (electricityOut records 0)
       +ℤ pos (sumOf boughtDirectOf records) +ℤ pos (sumOf boughtIndirectOf records)
-      -ℤ pos (heatIn records 0) -ℤ pos (sumOf (λ r. onlyAt 0 (to r) (creditOf r)) records) -ℤ pos (powerIn records 0)
+      -ℤ pos (heatIn records 0) -ℤ pos (sumOf (λ r. onlyAt 0 (to r) (creditOf r)) records) -ℤ pos (electricityIn records 0)
 
   -- every process's raised, added
   unfoldable pub totalRaised : ℕ

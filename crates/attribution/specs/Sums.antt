@@ -1,4 +1,4 @@
--- Sums over records, with signs.
+-- For the reader. Document 01, "Attribution" and "The report": sums over records, with signs.
 use mathlib.Core.List.{List, [], _∷_}
 use lib.IntN.{ℤ, pos, _+ℤ_}
 use Rattle.lines.specs.Records.{Record}

@@ -1,10 +1,10 @@
--- Document 01, "Sheets sent back": row 15, after all lines.
+-- For the reader. Document 01, "Sheets sent back": row 15, after all lines.
 use mathlib.Core.Bool.{Bool, false, _||_}
 use mathlib.Core.List.{List, [], _∷_, _++_}
-use Prim.Native.Nat.{ℕ, _^_}
+use Prim.Native.Nat.{ℕ}
 use lib.Dec.{leb}
 use lib.IntN.{natAbs}
-use Rattle.quantity.specs.Limits.{Limits}
+use Rattle.quantity.specs.Limits.{Limits, wholeGrams}
 use Rattle.lines.specs.Records.{recordsOf}
 use Rattle.sheet.specs.Verdict.{Check, check, sheetChecks}
 use Rattle.attribution.specs.Reckoning.{Row, Totals, Reckoning, reckoning}
@@ -26,7 +26,7 @@ anyFrom limit (g ∷ gs) = leb limit g || anyFrom limit gs
 
 -- 15: a whole-gram figure of the report, its sign aside, is 2^63 or more
 unfoldable pub figureTooLarge : Reckoning → Bool
-figureTooLarge r = anyFrom (2 ^ 63) (rowsGrams (r .rows) ++ totalGrams (r .totals))
+figureTooLarge r = anyFrom wholeGrams (rowsGrams (r .rows) ++ totalGrams (r .totals))
 
 -- 1 to 14, then 15
 unfoldable pub reckonerChecks : Limits → (sheet : List ℕ) → List Check

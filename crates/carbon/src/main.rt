@@ -8,6 +8,7 @@ use writer::LONGEST;
 // One byte more than a sheet may have, so that a longer one is seen.
 const MOST: usize = BYTES + 1;
 
+// No contract can say what a program reads and writes: runs of the program stand guard over what is done here.
 fn main() {
     let mut sheet = [0u8; MOST];
     let got = io::read_full(STDIN_FILENO, &mut sheet);

@@ -3,10 +3,10 @@ use mathlib.Core.Path.{_≡_, refl, _∙_}
 use mathlib.Core.List.{List}
 use Prim.Native.Nat.{ℕ, zero, suc, _^_, _≤_, _<_}
 use native.Mathlib.Omega.{arith}
-use lib.ListN.{getD}
+use Rattle.quantity.specs.Limits.{wholeGrams}
 use Rattle.goods.specs.Sums.{sumTo}
-use Rattle.goods.specs.Goods.{poolOf, leftOf}
-use Rattle.goods.specs.Settling.{SIZE, Settleable, PoolsSettled}
+use Rattle.goods.specs.ByProcess.{figures}
+use Rattle.goods.specs.Settling.{pairs, Settleable, poolHeld, leftHeld, PoolsSettled}
 use Rattle.goods.proofs.Sums.{sum-suc, sum-mono, sum-cong}
 use Rattle.goods.proofs.Pools.{left-sum-ahead}
 use Rattle.goods.proofs.Same.{pool-cong, left-cong}
@@ -31,7 +31,8 @@ module _ {n : ℕ} {output : ℕ → ℕ} {kilos : ℕ → ℕ → ℕ} {own own
     total = rw (← sum-cong n own own′ same) (s .total);
   }
 
-  pub pooled-cong : {pools lefts : List ℕ} {left : ℕ} → Pooled n output kilos own pools lefts left → Pooled n output kilos own′ pools lefts left
+module _ {outputs kilos : List ℕ} {n : ℕ} {own own′ : ℕ → ℕ} (same : (k : ℕ) → 1 ≤ k → k ≤ n → own k ≡ own′ k) where
+  pub pooled-cong : {pools lefts : List ℕ} {left : ℕ} → Pooled outputs kilos n own pools lefts left → Pooled outputs kilos n own′ pools lefts left
   pooled-cong p =
       record {
         pool = record { size = p .pool .size; at = λ k l h. p .pool .at k l h ∙ same-pool k h };
@@ -40,28 +41,28 @@ module _ {n : ℕ} {output : ℕ → ℕ} {kilos : ℕ → ℕ → ℕ} {own own
         kept = p .kept ∙ sum-cong n own own′ same;
       }
     where
-      same-pool : (k : ℕ) → k ≤ n → poolOf n output kilos own k ≡ poolOf n output kilos own′ k
-      same-pool = pool-cong n output output kilos kilos own own′ (λ i l h. refl) (λ i j l h u v. refl) same
+      same-pool : (k : ℕ) → k ≤ n → poolHeld outputs kilos n own k ≡ poolHeld outputs kilos n own′ k
+      same-pool = pool-cong n _ _ (pairs kilos) (pairs kilos) own own′ (λ i l h. refl) (λ i j l h u v. refl) same
 
-      same-left : (k : ℕ) → 1 ≤ k → k ≤ n → leftOf n output kilos own k ≡ leftOf n output kilos own′ k
-      same-left = left-cong n output output kilos kilos own own′ (λ i l h. refl) (λ i j l h u v. refl) same
+      same-left : (k : ℕ) → 1 ≤ k → k ≤ n → leftHeld outputs kilos n own k ≡ leftHeld outputs kilos n own′ k
+      same-left = left-cong n _ _ (pairs kilos) (pairs kilos) own own′ (λ i l h. refl) (λ i j l h u v. refl) same
 
-module _ {n : ℕ} {output : ℕ → ℕ} {kilos : ℕ → ℕ → ℕ} {own : ℕ → ℕ} (s : Settleable n output kilos own)
-    {pools lefts : List ℕ} (p : PoolsSettled SIZE n output kilos own pools lefts) where
-  left-all : sumTo n (λ k. getD lefts k 0) ≡ sumTo n (leftOf n output kilos own)
-  left-all = sum-cong n _ _ (p .left-is)
+module _ {outputs kilos before : List ℕ} {n : ℕ} (s : Settleable n (figures outputs) (pairs kilos) (figures before))
+    {pools lefts : List ℕ} (p : PoolsSettled outputs kilos n before pools lefts) where
+  left-all : sumTo n (figures lefts) ≡ sumTo n (leftHeld outputs kilos n (figures before))
+  left-all = sum-cong n _ _ (p .rest .at)
 
   -- no gram is lost
-  left-kept : sumTo n (λ k. getD lefts k 0) ≡ sumTo n own
-  left-kept = left-all ∙ left-sum-ahead n output kilos own (s .ahead) (s .within)
+  left-kept : sumTo n (figures lefts) ≡ sumTo n (figures before)
+  left-kept = left-all ∙ left-sum-ahead n (figures outputs) (pairs kilos) (figures before) (s .ahead) (s .within)
 
-  pub left-small : sumTo n (λ k. getD lefts k 0) < 2 ^ 63
+  pub left-small : sumTo n (figures lefts) < wholeGrams
   left-small = rw left-kept (s .total)
 
-  pub pooled : {left : ℕ} → left ≡ sumTo n (λ k. getD lefts k 0) → Pooled n output kilos own pools lefts left
+  pub pooled : {left : ℕ} → left ≡ sumTo n (figures lefts) → Pooled outputs kilos n (figures before) pools lefts left
   pooled e = record {
-    pool = record { size = p .pools-size; at = p .pool-is };
-    rest = record { size = p .lefts-size; at = p .left-is };
+    pool = p .pool;
+    rest = p .rest;
     all = e ∙ left-all;
     kept = e ∙ left-kept;
   }

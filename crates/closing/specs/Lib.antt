@@ -1,2 +1,2 @@
--- The figures of all processes once every line is booked.
+-- For the code only: Closing.
 pub mod Closing

@@ -2,7 +2,8 @@
 ghost use mathlib.Core.Path.{_≡_};
 ghost use lib.ListN.{length};
 ghost use Prim.Native.Nat.{_≤_, _<_};
-ghost use Rattle.goods.specs.Settling.{PROCESSES, SIZE, figures, pairs, Settleable, NoFigures};
+ghost use Rattle.goods.specs.ByProcess.{PROCESSES, SIZE, figures};
+ghost use Rattle.goods.specs.Settling.{pairs, Settleable, NoFigures};
 ghost use Rattle.closing.specs.Closing.{Pooled, Ready, Closed, anyLarge};
 use goods::GramsByProcess;
 use goods::KilosByPair;
@@ -14,9 +15,7 @@ use ledger::add_all;
 use ledger::raise_all;
 use ledger::total;
 use quantity::Grams;
-
-// 2^63: no whole-gram figure of the report may reach it.
-const LIMIT: u64 = 9223372036854775808;
+use quantity::limits::WHOLE_GRAMS;
 
 // Grams of each process by its number, and the totals `left` and `raised` of the works.
 pub struct Closing {
@@ -45,7 +44,7 @@ fn pools_from(
     requires { ⌜ count ≤ PROCESSES ⌝ }
     requires { ⌜ Settleable count (figures (outputs .0)) (pairs (now kilos)) (figures (now pools)) ⌝ }
     requires { ⌜ (length (now pools) ≡ SIZE) × NoFigures (now lefts) ⌝ }
-    ensures { λ r. ⌜ Pooled count (figures (outputs .0)) (pairs (now (kilos .entry))) (figures (now (pools .entry))) (now (pools .exit)) (now (lefts .exit)) (r .0) ⌝ }
+    ensures { λ r. ⌜ Pooled (outputs .0) (now (kilos .entry)) count (figures (now (pools .entry))) (now (pools .exit)) (now (lefts .exit)) (r .0) ⌝ }
 {
     settle(pools, lefts, outputs, kilos, count);
     total(lefts, count)
@@ -60,16 +59,10 @@ pub fn close(l: Ledger, outputs: KilosByProcess, kilos: &KilosByPair, count: usi
     let mut raised = GramsByProcess([0; SIZE]);
     raise_all(&mut direct.0, &mut raised.0, &l.balances.0, count);
     let total_raised = total(&raised.0, count);
-    let mut direct_pools = GramsByProcess([0; SIZE]);
-    let mut direct_lefts = GramsByProcess([0; SIZE]);
-    add_all(&mut direct_pools.0, &direct.0, &l.bought_direct.0, count);
-    let direct_left = pools_from(
-        &mut direct_pools.0,
-        &mut direct_lefts.0,
-        outputs,
-        kilos,
-        count,
-    );
+    let mut pools = GramsByProcess([0; SIZE]);
+    let mut lefts = GramsByProcess([0; SIZE]);
+    add_all(&mut pools.0, &direct.0, &l.bought_direct.0, count);
+    let direct_left = pools_from(&mut pools.0, &mut lefts.0, outputs, kilos, count);
     let indirect = l.indirect;
     let mut indirect_pools = GramsByProcess([0; SIZE]);
     let mut indirect_lefts = GramsByProcess([0; SIZE]);
@@ -91,9 +84,9 @@ pub fn close(l: Ledger, outputs: KilosByProcess, kilos: &KilosByPair, count: usi
         direct,
         indirect,
         raised,
-        direct_pools,
+        direct_pools: pools,
         indirect_pools,
-        direct_lefts,
+        direct_lefts: lefts,
         indirect_lefts,
         left,
         total_raised,
@@ -109,7 +102,7 @@ pub fn too_large(a: &[u64; SIZE], count: usize) -> bool
     let mut done: usize = 0;
     while done < count {
         let k = done + 1;
-        large = large | (a[k] >= LIMIT);
+        large = large | (a[k] >= WHOLE_GRAMS);
         done = k;
     }
     large

@@ -10,7 +10,7 @@ use lib.Count.{leadingZeros, leading-length}
 use lib.Dec.{leb}
 use lib.ListN.{length}
 use Rattle.decimal.specs.Spelling.{spelling}
-use Rattle.decimal.specs.Writing.{leastOf}
+use Rattle.decimal.specs.Widths.{leastOf}
 use Rattle.decimal.proofs.Bools.{and-both}
 use Rattle.decimal.proofs.Spelling.{spelling-some}
 use Rattle.decimal.proofs.Widths.{length-at-most, length-at-least}

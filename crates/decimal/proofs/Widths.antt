@@ -15,11 +15,14 @@ length-one n h = ap length (spell-one n h)
 pub length-more : (n : ℕ) → 10 ≤ n → length (spelling n) ≡ length (spelling (n / 10)) + 1
 length-more n h = ap length (spell-more n h) ∙ length-append (spelling (n / 10)) ((48 + n % 10) ∷ [])
 
+ten : 0 < 10
+ten = omega arith
+
 pub length-at-most : (k n : ℕ) → n < 10 ^ suc k → length (spelling n) ≤ suc k
 length-at-most zero n h = omega (arith, length-one n h)
 length-at-most (suc k) n h =
     elim (decLe 10 n) [
-      | yes p ↦ omega (arith, length-more n p, length-at-most k (n / 10) (div-lt-iff-lt-mul {k = 10} (let z : 0 < 10 = omega arith in z) .1 (rw (pow-suc 10 (suc k)) at h)))
+      | yes p ↦ omega (arith, length-more n p, length-at-most k (n / 10) (div-lt-iff-lt-mul ten .1 (rw (pow-suc 10 (suc k)) at h)))
       | no p ↦ omega (arith, length-one n (lt-of-not-le p))
     ]
 
@@ -27,7 +30,7 @@ pub length-at-least : (k n : ℕ) → 10 ^ k ≤ n → suc k ≤ length (spellin
 length-at-least zero n h = spelling-some n
 length-at-least (suc k) n h =
     elim (decLe 10 n) [
-      | yes p ↦ omega (arith, length-more n p, length-at-least k (n / 10) (le-div-iff-mul-le {k = 10} (let z : 0 < 10 = omega arith in z) .1 (rw (pow-suc 10 k) at h)))
+      | yes p ↦ omega (arith, length-more n p, length-at-least k (n / 10) (le-div-iff-mul-le ten .1 (rw (pow-suc 10 k) at h)))
       | no p ↦ absurd (let z = one-le-pow k in let q = rw (pow-suc 10 k) at h in omega (arith, lt-of-not-le p))
     ]
   where

@@ -1,4 +1,4 @@
--- Fields and whether they are numbers.
+-- Examples. Fields and whether they are numbers.
 use mathlib.Core.Bool.{Bool, true, false}
 use mathlib.Core.List.{List, [], _∷_}
 use Prim.Native.String.{String}

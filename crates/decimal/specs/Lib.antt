@@ -1,6 +1,7 @@
--- Document 01, "The sheet": "A number is one or more decimal digits, however many, with no leading zero except `0` itself."
+-- For the reader: Number, Spelling, Text, Writing. For the code only: Widths. Examples: Cases.
 pub mod Number
 pub mod Spelling
 pub mod Text
 pub mod Cases
 pub mod Writing
+pub mod Widths

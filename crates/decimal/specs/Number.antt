@@ -1,4 +1,4 @@
--- Document 01, "The sheet": a number as it is read. Its value has no bound.
+-- For the reader. Document 01, "The sheet": a number as it is read. Its value has no bound.
 use mathlib.Core.Bool.{Bool, true, false, _&&_, not}
 use mathlib.Core.List.{List, [], _∷_}
 use Prim.Native.Nat.{ℕ, _+_, _-_, _*_}

@@ -1,4 +1,4 @@
--- Document 01, "The sheet" and "The report": a number as it is spelt.
+-- For the reader. Document 01, "The sheet" and "The report": a number as it is spelt.
 use mathlib.Core.Bool.{Bool, true, false}
 use mathlib.Core.List.{List, [], _∷_, _++_}
 use Prim.Native.Nat.{ℕ, zero, suc, _+_, _/_, _%_}

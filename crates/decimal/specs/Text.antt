@@ -1,4 +1,4 @@
--- The bytes of a text of ASCII characters, so that tables of examples can be read.
+-- For the reader. The bytes of a text of ASCII characters, so that tables of examples can be read.
 use mathlib.Core.List.{List}
 use Prim.Native.Nat.{ℕ}
 use Prim.Native.Char.{code}

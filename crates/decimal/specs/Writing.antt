@@ -1,13 +1,8 @@
--- Bytes written at a place of a lent space, and how wide a number is.
+-- For the reader. Document 01, "What the contracts say", a: bytes written at a place of a lent space, and each other byte of it.
 use mathlib.Core.Path.{_≡_}
 use mathlib.Core.List.{List, _++_}
-use Prim.Native.Nat.{ℕ, zero, suc, _+_, _^_}
+use Prim.Native.Nat.{ℕ, _+_}
 use lib.ListN.{length, take, drop}
-
--- the least number of k + 1 digits
-abbrev pub leastOf : (k : ℕ) → ℕ
-leastOf zero = 0
-leastOf (suc k) = 10 ^ suc k
 
 -- the space with the bytes at the place, and every other byte as it was
 unfoldable pub written : (space : List ℕ) → (at : ℕ) → (bytes : List ℕ) → List ℕ

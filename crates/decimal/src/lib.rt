@@ -3,7 +3,8 @@ ghost use mathlib.Core.Path.{_≡_};
 ghost use Prim.Native.Nat.{_+_, _≤_, _<_};
 ghost use lib.ListN.{length};
 ghost use Rattle.decimal.specs.Spelling.{spelling};
-ghost use Rattle.decimal.specs.Writing.{leastOf, Put};
+ghost use Rattle.decimal.specs.Writing.{Put};
+ghost use Rattle.decimal.specs.Widths.{leastOf};
 
 // The least number of k + 1 digits. A constant array would be put on the stack for each number that is written.
 fn least(k: usize) -> u64
@@ -31,6 +32,7 @@ fn least(k: usize) -> u64
         17 => 100000000000000000,
         18 => 1000000000000000000,
         19 => 10000000000000000000,
+        // k is below 20: this is not reached, and any number would do
         _ => 0,
     }
 }

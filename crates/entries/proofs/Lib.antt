@@ -1,6 +1,5 @@
 -- Laws that the crates above cite.
 pub mod ReadBack
-pub mod InRange
-pub mod KindWords
-pub mod StreamWords
-pub mod KindEntries
+pub mod Ranges
+pub mod Streams
+pub mod OfKind

@@ -1,4 +1,4 @@
--- Document 01, "Source streams" and "Attribution": the grams of one line, and its entry.
+-- For the reader: Weighed. For the code only: Entries, Read.
 pub mod Weighed
 pub mod Entries
 pub mod Read

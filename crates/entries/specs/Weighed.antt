@@ -1,12 +1,12 @@
--- Document 01, "Source streams" and "Attribution": the grams of one line, 0 for a line of another kind.
+-- For the reader. Document 01, "Source streams" and "Attribution": the grams of one line, 0 for a line of another kind.
 use mathlib.Core.Bool.{cond}
 use Prim.Native.Nat.{ℕ}
 use lib.IntN.{ℤ, pos}
 use Rattle.quantity.specs.Streams.{streamGrams}
 use Rattle.quantity.specs.Standard.{standardA, standardB}
 use Rattle.quantity.specs.Weights.{weight, wasteGasCharge, wasteGasCredit}
-use Rattle.lines.specs.Records.{Field, number, dash, other, Record, field, numberAt, is}
-use Rattle.lines.specs.declared.Kind.the-variants.{SourceStream, Heat, WasteGas, Power, BoughtPrecursor}
+use Rattle.lines.specs.Records.{Field, number, dash, other, Record, field, numberAt}
+use Rattle.sheet.specs.Kinds.{SourceStream, MeasurableHeat, WasteGas, Electricity, BoughtPrecursor, is}
 
 -- `-` means the standard value; a number written there governs over the table
 abbrev pub orStandard : Field → (standard : ℕ) → ℕ
@@ -26,7 +26,7 @@ streamOf r =
 
 -- `H,from,to,MJ,factor`
 unfoldable pub heatOf : Record → ℕ
-heatOf r = cond (is Heat r) (weight (numberAt r 2) (numberAt r 3)) 0
+heatOf r = cond (is MeasurableHeat r) (weight (numberAt r 2) (numberAt r 3)) 0
 
 -- `W,from,to,MJ`: what its receiver is charged, and what its sender is credited
 unfoldable pub chargeOf : Record → ℕ
@@ -36,8 +36,8 @@ unfoldable pub creditOf : Record → ℕ
 creditOf r = cond (is WasteGas r) (wasteGasCredit (numberAt r 2)) 0
 
 -- `E,from,to,kWh,factor`
-unfoldable pub powerOf : Record → ℕ
-powerOf r = cond (is Power r) (weight (numberAt r 2) (numberAt r 3)) 0
+unfoldable pub electricityOf : Record → ℕ
+electricityOf r = cond (is Electricity r) (weight (numberAt r 2) (numberAt r 3)) 0
 
 -- `B,n,kg,direct,indirect`
 unfoldable pub boughtDirectOf : Record → ℕ

@@ -2,25 +2,19 @@
 mod given;
 
 ghost use mathlib.Core.Path.{_≡_};
-ghost use Prim.Native.Nat.{_≤_};
-ghost use Rattle.lines.specs.declared.Kind.the-variants.{SourceStream, Heat, WasteGas, Power, BoughtPrecursor};
-ghost use Rattle.ledger.specs.Ledger.{Small};
-ghost use Rattle.quantity.specs.Limits.{limits};
+ghost use Rattle.sheet.specs.Kinds.{SourceStream, MeasurableHeat, WasteGas, Electricity, BoughtPrecursor, letter};
 ghost use Rattle.entries.specs.Entries.{entry};
-ghost use Rattle.entries.specs.Read.{recordRead, Shaped};
+ghost use Rattle.entries.specs.Read.{recordRead, LineKeeps};
 use ledger::Entry;
-use lines::Kind;
 use lines::LineRead;
 use quantity::Kilos;
 use quantity::Megajoules;
 
 // `S,n,method,code,kg,a,b,c,d`, `-` in a or b standing for the standard value.
 fn weigh_stream(l: LineRead) -> Entry
-    requires { ⌜ Shaped limits (recordRead l) ⌝ }
-    requires { ⌜ l .count ≤ 8 ⌝ }
-    requires { ⌜ l .kind ≡ SourceStream ⌝ }
+    requires { ⌜ LineKeeps l ⌝ }
+    requires { ⌜ l .letter ≡ letter SourceStream ⌝ }
     ensures { λ r. ⌜ r ≡ entry (recordRead l) ⌝ }
-    ensures small { λ r. ⌜ Small r ⌝ }
 {
     let method = l.words[1];
     let code = l.words[2];
@@ -32,11 +26,9 @@ fn weigh_stream(l: LineRead) -> Entry
 
 // `H,from,to,MJ,factor`.
 fn weigh_heat(l: LineRead) -> Entry
-    requires { ⌜ Shaped limits (recordRead l) ⌝ }
-    requires { ⌜ l .count ≤ 8 ⌝ }
-    requires { ⌜ l .kind ≡ Heat ⌝ }
+    requires { ⌜ LineKeeps l ⌝ }
+    requires { ⌜ l .letter ≡ letter MeasurableHeat ⌝ }
     ensures { λ r. ⌜ r ≡ entry (recordRead l) ⌝ }
-    ensures small { λ r. ⌜ Small r ⌝ }
 {
     let weight = quantity::weighing::heat_weight(Megajoules(l.words[2]), l.words[3]);
     moves::heat_entry(l.words[0] as usize, l.words[1] as usize, weight)
@@ -44,11 +36,9 @@ fn weigh_heat(l: LineRead) -> Entry
 
 // `W,from,to,MJ`.
 fn weigh_gas(l: LineRead) -> Entry
-    requires { ⌜ Shaped limits (recordRead l) ⌝ }
-    requires { ⌜ l .count ≤ 8 ⌝ }
-    requires { ⌜ l .kind ≡ WasteGas ⌝ }
+    requires { ⌜ LineKeeps l ⌝ }
+    requires { ⌜ l .letter ≡ letter WasteGas ⌝ }
     ensures { λ r. ⌜ r ≡ entry (recordRead l) ⌝ }
-    ensures small { λ r. ⌜ Small r ⌝ }
 {
     moves::gas_entry(
         l.words[0] as usize,
@@ -58,46 +48,38 @@ fn weigh_gas(l: LineRead) -> Entry
 }
 
 // `E,from,to,kWh,factor`.
-fn weigh_power(l: LineRead) -> Entry
-    requires { ⌜ Shaped limits (recordRead l) ⌝ }
-    requires { ⌜ l .count ≤ 8 ⌝ }
-    requires { ⌜ l .kind ≡ Power ⌝ }
+fn weigh_electricity(l: LineRead) -> Entry
+    requires { ⌜ LineKeeps l ⌝ }
+    requires { ⌜ l .letter ≡ letter Electricity ⌝ }
     ensures { λ r. ⌜ r ≡ entry (recordRead l) ⌝ }
-    ensures small { λ r. ⌜ Small r ⌝ }
 {
-    let weight = quantity::weighing::power_weight(l.words[2], l.words[3]);
-    moves::power_entry(l.words[0] as usize, l.words[1] as usize, weight)
+    let weight = quantity::weighing::electricity_weight(l.words[2], l.words[3]);
+    moves::electricity_entry(l.words[0] as usize, l.words[1] as usize, weight)
 }
 
 // `B,n,kg,direct,indirect`.
 fn weigh_bought(l: LineRead) -> Entry
-    requires { ⌜ Shaped limits (recordRead l) ⌝ }
-    requires { ⌜ l .count ≤ 8 ⌝ }
-    requires { ⌜ l .kind ≡ BoughtPrecursor ⌝ }
+    requires { ⌜ LineKeeps l ⌝ }
+    requires { ⌜ l .letter ≡ letter BoughtPrecursor ⌝ }
     ensures { λ r. ⌜ r ≡ entry (recordRead l) ⌝ }
-    ensures small { λ r. ⌜ Small r ⌝ }
 {
     let direct = quantity::weighing::precursor_weight(Kilos(l.words[1]), l.words[2]);
     let indirect = quantity::weighing::precursor_weight(Kilos(l.words[1]), l.words[3]);
     moves::bought_entry(l.words[0] as usize, direct, indirect)
 }
 
-// The entry of a line by its kind. Outputs and own goods move no grams here.
+// The entry of a line by its letter. Outputs and own goods move no grams here.
 pub fn weigh(l: LineRead) -> Entry
-    requires { ⌜ Shaped limits (recordRead l) ⌝ }
-    requires { ⌜ l .count ≤ 8 ⌝ }
+    requires { ⌜ LineKeeps l ⌝ }
     ensures { λ r. ⌜ r ≡ entry (recordRead l) ⌝ }
-    ensures small { λ r. ⌜ Small r ⌝ }
 {
-    let kind = l.kind;
-    match kind {
-        Kind::Process => moves::nothing(),
-        Kind::SourceStream => weigh_stream(l),
-        Kind::Heat => weigh_heat(l),
-        Kind::WasteGas => weigh_gas(l),
-        Kind::Power => weigh_power(l),
-        Kind::BoughtPrecursor => weigh_bought(l),
-        Kind::OwnGood => moves::nothing(),
-        Kind::Unknown => moves::nothing(),
+    let letter = l.letter;
+    match letter {
+        b'S' => weigh_stream(l),
+        b'H' => weigh_heat(l),
+        b'W' => weigh_gas(l),
+        b'E' => weigh_electricity(l),
+        b'B' => weigh_bought(l),
+        _ => moves::nothing(),
     }
 }

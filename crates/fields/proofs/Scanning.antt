@@ -17,7 +17,8 @@ use Rattle.decimal.proofs.Bools.{and-both}
 use Rattle.lines.specs.Lines.{LF, COMMA}
 use Rattle.lines.specs.Records.{Field, number, dash, other, fieldOf}
 use Rattle.lines.specs.Words.{CAP, word}
-use Rattle.fields.specs.Scan.{fieldLength, fieldAt, saidOf, wordOf, Capped, digitsSaid, digitsFrom, Scanning, ScannedAt, FieldReadAt, FieldBounds, EndsInLF}
+use Rattle.fields.specs.Scan.{fieldLength, fieldAt, saidOf, wordOf, Capped, digitsSaid, digitsFrom, EndsInLF}
+use Rattle.fields.specs.Scan.{Scanning, ScannedAt, FieldReadAt, FieldBounds}
 use Rattle.fields.specs.declared.Said.{Said}
 use Rattle.fields.specs.declared.Said.the-variants.{Number, Dash, Other}
 use Rattle.fields.specs.declared.Scanned.{Scanned}
@@ -227,7 +228,11 @@ module _ (s : List ℕ) (start : ℕ) (f : Scanned) (k : ScannedAt s start f) wh
 
   first : (f .end ≡ start → ⊥) → getD (fieldAt s start) 0 0 ≡ getD s start 0
   first n =
-      let h : 0 < fieldLength (drop start s) = elim (decLe 1 (fieldLength (drop start s))) [ yes g ↦ g | no g ↦ absurd (n (let z = lt-of-not-le g in omega (arith, k .end))) ] in
+      let h : 0 < fieldLength (drop start s) =
+      elim (decLe 1 (fieldLength (drop start s))) [
+        | yes g ↦ g
+        | no g ↦ absurd (n (let z = lt-of-not-le g in omega (arith, k .end)))
+      ] in
       rw (getD-take (fieldLength (drop start s)) (drop start s) 0 0 h, getD-drop) (ap (λ (n : ℕ). getD s n 0) (let e : start + 0 ≡ start = omega arith in e))
 
   done : (said : Said) → said ≡ saidOf (fieldOf (fieldAt s start)) → FieldDone s start said (f .end)

@@ -1,5 +1,5 @@
 -- A short number or `-`: it is read at once, and no other field is. Assumes nothing.
-use mathlib.Core.Path.{_≡_, refl, sym, ap, _∙_}
+use mathlib.Core.Path.{_≡_, refl, sym, ap, ap₂, _∙_}
 use mathlib.Core.Bool.{Bool, true, false, cond, _&&_, not}
 use mathlib.Core.Logic.{inl, inr}
 use mathlib.Core.List.{List, [], _∷_}
@@ -7,7 +7,7 @@ use Prim.Native.Nat.{ℕ, _+_, _-_, _*_, min, _≤_, _<_}
 use native.Mathlib.Nat.{lt-of-not-le}
 use native.Mathlib.Decide.{decLe, ℕ-discrete}
 use native.Mathlib.Omega.{arith}
-use borrow.Author.Tests.{eq-eqb, ne-eqb, eqb-true, le-ltb, lt-ltb, ltb-true, leb-true, le-leb, lt-leb}
+use borrow.Author.Tests.{ne-eqb, eqb-true, le-ltb, lt-ltb, ltb-true, leb-true, le-leb, lt-leb}
 use lib.Dec.{eqb, ltb, leb}
 use lib.ListN.{length, take, drop, getD}
 use Rattle.decimal.specs.Number.{isDigit, allDigits, isNumber, valueFrom}
@@ -15,8 +15,10 @@ use Rattle.decimal.proofs.Bools.{and-both, never}
 use Rattle.lines.specs.Lines.{LF, COMMA}
 use Rattle.lines.specs.Records.{number, other, fieldOf}
 use Rattle.lines.specs.Words.{CAP, DASH, OTHER, word}
-use Rattle.fields.specs.Scan.{fieldLength, fieldAt, saidOf, wordOf, digitsSaid, digitsFrom, isLeading, isShort, beforeStop, FieldBefore, ShortAt, DigitsAt}
+use Rattle.fields.specs.Scan.{fieldLength, fieldAt, saidOf, wordOf, digitsSaid, digitsFrom, isLeading, SHORT, DigitsAt, endedWord, isShort, shortAt}
 use Rattle.fields.specs.declared.Digits.{Digits}
+use Rattle.fields.specs.declared.ShortRead.{ShortRead}
+use Rattle.fields.specs.declared.ShortRead.the-variants.{Next, Last, Another}
 use Rattle.fields.proofs.Scanning.{Stop, field-stop, field-one, field-left, grows, digits-none, said-one, said-many, word-said}
 
 pub leading-range : (b : ℕ) → isLeading b ≡ true → (49 ≤ b) × (b ≤ 57)
@@ -65,34 +67,44 @@ word-none = refl
 
 -- ---- what is read before a comma or LF
 
-module _ (s : List ℕ) (start said end : ℕ) (h : end < length s) where
+abbrev here : (s : List ℕ) → (start : ℕ) → ℕ
+here s start = word (fieldOf (fieldAt s start))
+
+abbrev ending : (s : List ℕ) → (start : ℕ) → ℕ
+ending s start = start + fieldLength (drop start s)
+
+-- no other field is read
+other-short : (s : List ℕ) (start : ℕ) → isShort (here s start) ≡ false → Another ≡ shortAt s start
+unfolding shortAt
+other-short s start e = ap (λ (t : Bool). cond t (endedWord s (here s start) (ending s start)) Another) (sym e)
+
+module _ (s : List ℕ) (start said end : ℕ) where
   abbrev b : ℕ
   b = getD s end 0
 
-  abbrev here : ℕ
-  here = word (fieldOf (fieldAt s start))
+  stop-short : said ≡ here s start → end ≡ ending s start → isShort said ≡ true → endedWord s said end ≡ shortAt s start
+  unfolding shortAt
+  stop-short e f t =
+      ap₂ (endedWord s) e f
+      ∙ ap (λ (t : Bool). cond t (endedWord s (here s start) (ending s start)) Another) (sym (ap isShort (sym e) ∙ t))
 
-  stop-before : Stop b → said ≡ here → end ≡ start + fieldLength (drop start s) → FieldBefore s start said end (eqb b COMMA)
-  stop-before w e f = record { says = e; ends = f; inside = h; behind = refl }
+  no-stop : (b ≡ LF → ⊥) → (b ≡ COMMA → ⊥) → endedWord s said end ≡ Another
+  no-stop p q = simp (ne-eqb b COMMA q, ne-eqb b LF p)
 
   -- the field is short where one of the two stands here, and not where none does
-  module _ (yes : Stop b → (said ≡ here) × ((end ≡ start + fieldLength (drop start s)) × (isShort said ≡ true)))
-      (none : (b ≡ LF → ⊥) → (b ≡ COMMA → ⊥) → isShort here ≡ false) where
-    stop-short : Stop b → (true ≡ isShort here) × FieldBefore s start said end (eqb b COMMA)
-    stop-short w = let y = yes w in (sym (ap isShort (sym (y .0)) ∙ y .1 .1), stop-before w (y .0) (y .1 .0))
-
-    pub short-at : ShortAt s start (beforeStop s said end)
-    short-at = go (eqb b COMMA) refl (eqb b LF) refl
-      where
-        go : (p : Bool) → eqb b COMMA ≡ p → (q : Bool) → eqb b LF ≡ q
-            → ShortAt s start (record { read = cond p true q; word = said; end = end; more = p })
-        go true e q f = let y = stop-short (inl (eqb-true b COMMA e)) in record { read = y .0; before = λ r. rw e at (y .1) }
-        go false e true f = let y = stop-short (inr (eqb-true b LF f)) in record { read = y .0; before = λ r. rw e at (y .1) }
-        go false e false f =
-            record {
-              read = sym (none (λ (g : b ≡ LF). never (sym f ∙ eq-eqb b LF g)) (λ (g : b ≡ COMMA). never (sym e ∙ eq-eqb b COMMA g)));
-              before = λ r. absurd (never r);
-            }
+  short-at : (Stop b → (said ≡ here s start) × ((end ≡ ending s start) × (isShort said ≡ true)))
+      → ((b ≡ LF → ⊥) → (b ≡ COMMA → ⊥) → isShort (here s start) ≡ false) → endedWord s said end ≡ shortAt s start
+  short-at stopped none =
+      elim (ℕ-discrete b COMMA) [
+        | yes c ↦ stops (inl c)
+        | no q ↦ elim (ℕ-discrete b LF) [
+          | yes c ↦ stops (inr c)
+          | no p ↦ no-stop p q ∙ other-short s start (none p q)
+        ]
+      ]
+    where
+      stops : Stop b → endedWord s said end ≡ shortAt s start
+      stops w = let y = stopped w in stop-short (y .0) (y .1 .0) (y .1 .1)
 
 -- ---- numbers from `1` on
 
@@ -103,41 +115,45 @@ module _ (s : List ℕ) (start : ℕ) (l : isLeading (getD s start 0) ≡ true) 
   first-left : fieldAt s start ≡ getD s start 0 ∷ fieldAt s (start + 1)
   first-left = let r = leading-range (getD s start 0) l in field-left s start i (λ e. omega arith) (λ e. omega arith)
 
-  digits-said : word (fieldOf (fieldAt s start)) ≡ wordOf (digitsFrom true (d .value) (fieldAt s (d .end)))
+  digits-said : here s start ≡ wordOf (digitsFrom true (d .value) (fieldAt s (d .end)))
   digits-said =
       sym (word-said (fieldOf (fieldAt s start)))
       ∙ ap wordOf (said-leading (fieldAt s start) (ap (λ (f : List ℕ). isLeading (getD f 0 0)) first-left ∙ l) ∙ sym (k .scanned .said))
 
   -- all of them, where the field ends behind them
   number-yes : Stop stop
-      → (d .value ≡ word (fieldOf (fieldAt s start))) × ((d .end ≡ start + fieldLength (drop start s)) × (isShort (d .value) ≡ true))
+      → (d .value ≡ here s start) × ((d .end ≡ ending s start) × (isShort (d .value) ≡ true))
   number-yes w =
       let z = field-stop s (d .end) (k .inside) w in (
-        ap wordOf (digits-none true (d .value) (k .scanned .capped) ∙ ap (λ (n : ℕ). digitsFrom true (d .value) (take n (drop (d .end) s))) (sym z)) ∙ sym digits-said,
-        (omega (arith, k .scanned .ends, z), simp (lt-ltb (d .value) 1000000000000 (k .below))),
+        ap wordOf
+            (digits-none true (d .value) (k .scanned .capped) ∙ ap (λ (n : ℕ). digitsFrom true (d .value) (take n (drop (d .end) s))) (sym z))
+            ∙ sym digits-said,
+        (omega (arith, k .scanned .ends, z), simp (lt-ltb (d .value) CAP (k .below))),
       )
 
   -- not all, where one more byte follows
-  past : (b : ℕ) (f : List ℕ) → (d .value < 100000000000 → isDigit b ≡ false) → isShort (wordOf (digitsFrom true (d .value) (b ∷ f))) ≡ false
+  past : (b : ℕ) (f : List ℕ) → (d .value < SHORT → isDigit b ≡ false) → isShort (wordOf (digitsFrom true (d .value) (b ∷ f))) ≡ false
   unfolding digitsFrom allDigits valueFrom
   past b f t = go (isDigit b) refl (allDigits f)
     where
-      go : (p : Bool) → isDigit b ≡ p → (q : Bool) → isShort (wordOf (digitsSaid (p && q) (min (valueFrom (d .value * 10 + (b - 48)) f) CAP))) ≡ false
+      go : (p : Bool) → isDigit b ≡ p → (q : Bool)
+          → isShort (wordOf (digitsSaid (p && q) (min (valueFrom (d .value * 10 + (b - 48)) f) CAP))) ≡ false
       go true e true =
-          let m : 100000000000 ≤ d .value = elim (decLe 100000000000 (d .value)) [ yes g ↦ g | no g ↦ absurd (never (sym (t (lt-of-not-le g)) ∙ e)) ] in
+          let m : SHORT ≤ d .value =
+          elim (decLe SHORT (d .value)) [ yes g ↦ g | no g ↦ absurd (never (sym (t (lt-of-not-le g)) ∙ e)) ] in
           let v : ℕ = valueFrom (d .value * 10 + (b - 48)) f in
           let g : d .value * 10 + (b - 48) ≤ v = grows (d .value * 10 + (b - 48)) f in
-          simp (le-ltb (min v CAP) 1000000000000 (omega arith), ne-eqb (min v CAP) DASH (λ c. omega arith))
+          simp (le-ltb (min v CAP) CAP (omega arith), ne-eqb (min v CAP) DASH (λ c. omega arith))
       go true e false = refl
       go false e q = refl
 
-  number-no : (stop ≡ LF → ⊥) → (stop ≡ COMMA → ⊥) → isShort (word (fieldOf (fieldAt s start))) ≡ false
+  number-no : (stop ≡ LF → ⊥) → (stop ≡ COMMA → ⊥) → isShort (here s start) ≡ false
   number-no p q =
       ap isShort (digits-said ∙ ap (λ (f : List ℕ). wordOf (digitsFrom true (d .value) f)) (field-left s (d .end) (k .inside) p q))
       ∙ past stop (fieldAt s (d .end + 1)) (k .stops)
 
-  pub number-short : ShortAt s start (beforeStop s (d .value) (d .end))
-  number-short = short-at s start (d .value) (d .end) (k .inside) number-yes number-no
+  pub number-short : endedWord s (d .value) (d .end) ≡ shortAt s start
+  number-short = short-at s start (d .value) (d .end) number-yes number-no
 
 -- ---- `0` and `-`
 
@@ -150,7 +166,7 @@ module _ (s : List ℕ) (start : ℕ) (i : start + 1 < length s) where
     left : fieldAt s start ≡ first ∷ fieldAt s (start + 1)
     left = rw e at (field-left s start (omega arith) (λ f. omega arith) (λ f. omega arith))
 
-    byte-yes : Stop next → (said ≡ word (fieldOf (fieldAt s start))) × ((start + 1 ≡ start + fieldLength (drop start s)) × (isShort said ≡ true))
+    byte-yes : Stop next → (said ≡ here s start) × ((start + 1 ≡ ending s start) × (isShort said ≡ true))
     byte-yes w =
         let z = field-stop s (start + 1) i w in
         let empty : fieldAt s (start + 1) ≡ [] = rw z in (
@@ -158,43 +174,46 @@ module _ (s : List ℕ) (start : ℕ) (i : start + 1 < length s) where
           (field-one s start i w (omega arith), t),
         )
 
-    byte-no : (next ≡ LF → ⊥) → (next ≡ COMMA → ⊥) → isShort (word (fieldOf (fieldAt s start))) ≡ false
+    byte-no : (next ≡ LF → ⊥) → (next ≡ COMMA → ⊥) → isShort (here s start) ≡ false
     byte-no p q =
         ap (λ (f : List ℕ). isShort (word (fieldOf f))) (left ∙ ap (λ (f : List ℕ). first ∷ f) (field-left s (start + 1) i p q))
         ∙ ap isShort (more next (fieldAt s (start + 1 + 1)))
 
-    byte-short : ShortAt s start (beforeStop s said (start + 1))
-    byte-short = short-at s start said (start + 1) i byte-yes byte-no
+    byte-short : endedWord s said (start + 1) ≡ shortAt s start
+    byte-short = short-at s start said (start + 1) byte-yes byte-no
 
-  pub zero-short : getD s start 0 ≡ 48 → ShortAt s start (beforeStop s 0 (start + 1))
+  pub zero-short : getD s start 0 ≡ 48 → endedWord s 0 (start + 1) ≡ shortAt s start
   zero-short e = byte-short 48 0 e (omega arith) word-zero refl word-zero-more
 
-  pub dash-short : getD s start 0 ≡ 45 → ShortAt s start (beforeStop s DASH (start + 1))
+  pub dash-short : getD s start 0 ≡ 45 → endedWord s DASH (start + 1) ≡ shortAt s start
   dash-short e = byte-short 45 DASH e (omega arith) word-dash refl word-dash-more
 
 -- ---- any other byte
 
-pub none-short : (s : List ℕ) (start end : ℕ) → start < length s → isLeading (getD s start 0) ≡ false → (getD s start 0 ≡ 48 → ⊥) → (getD s start 0 ≡ 45 → ⊥)
-    → ShortAt s start (record { read = false; word = 0; end = end; more = false })
-none-short s start end h l z n = record { read = sym (ap isShort says); before = λ r. absurd (never r) }
+pub none-short : (s : List ℕ) (start : ℕ) → start < length s → isLeading (getD s start 0) ≡ false → (getD s start 0 ≡ 48 → ⊥)
+    → (getD s start 0 ≡ 45 → ⊥) → Another ≡ shortAt s start
+none-short s start h l z n = other-short s start (ap isShort says)
   where
     b : ℕ
     b = getD s start 0
+
+    above : 48 ≤ b → ltb 48 b ≡ true
+    above g = lt-ltb 48 b (elim (decLe b 48) [ yes m ↦ absurd (z (omega arith)) | no m ↦ lt-of-not-le m ])
 
     digit : isDigit b ≡ false
     digit =
         elim (decLe 48 b) [
           | yes g ↦ elim (decLe b 57) [
-            | yes k ↦ absurd (never (sym l ∙ simp (lt-ltb 48 b (elim (decLe b 48) [ yes m ↦ absurd (z (omega arith)) | no m ↦ lt-of-not-le m ]), le-leb b 57 k)))
+            | yes k ↦ absurd (never (sym l ∙ simp (above g, le-leb b 57 k)))
             | no k ↦ simp (lt-leb b 57 (lt-of-not-le k), le-leb 48 b g)
           ]
           | no g ↦ simp (lt-leb 48 b (lt-of-not-le g))
         ]
 
-    empty : Stop b → word (fieldOf (fieldAt s start)) ≡ OTHER
+    empty : Stop b → here s start ≡ OTHER
     empty w = ap (λ (k : ℕ). word (fieldOf (take k (drop start s)))) (field-stop s start h w) ∙ word-none
 
-    says : word (fieldOf (fieldAt s start)) ≡ OTHER
+    says : here s start ≡ OTHER
     says =
         elim (ℕ-discrete b COMMA) [
           | yes c ↦ empty (inl c)
@@ -203,3 +222,30 @@ none-short s start end h l z n = record { read = sym (ap isShort says); before =
             | no p ↦ ap (λ (f : List ℕ). word (fieldOf f)) (field-left s start h p q) ∙ other-first b (fieldAt s (start + 1)) digit n
           ]
         ]
+
+-- ---- what a field that was read says
+
+-- the field that starts at a place of the sheet says this word and ends here, this byte behind it
+pub record FieldBefore (sheet : List ℕ) (start said end behind : ℕ) : Type 0 where
+  pub says : said ≡ word (fieldOf (fieldAt sheet start))
+  pub ends : end ≡ start + fieldLength (drop start sheet)
+  pub stops : getD sheet end 0 ≡ behind
+
+abbrev pub Before : (sheet : List ℕ) → (start : ℕ) → ShortRead → Type 0
+Before sheet start (Next said end) = FieldBefore sheet start said end COMMA
+Before sheet start (Last said end) = FieldBefore sheet start said end LF
+Before sheet start Another = Unit {0}
+
+pub short-before : (s : List ℕ) (start : ℕ) → Before s start (shortAt s start)
+unfolding shortAt
+short-before s start = go (isShort (here s start)) (eqb b COMMA) refl (eqb b LF) refl
+  where
+    b : ℕ
+    b = getD s (ending s start) 0
+
+    go : (t p : Bool) → eqb b COMMA ≡ p → (q : Bool) → eqb b LF ≡ q
+        → Before s start (cond t (cond p (Next (here s start) (ending s start)) (cond q (Last (here s start) (ending s start)) Another)) Another)
+    go false p e q f = tt
+    go true true e q f = record { says = refl; ends = refl; stops = eqb-true b COMMA e }
+    go true false e true f = record { says = refl; ends = refl; stops = eqb-true b LF f }
+    go true false e false f = tt

@@ -1,2 +1,2 @@
--- A field as the code finds it.
+-- For the code only: a field as the code finds it.
 pub mod Scan

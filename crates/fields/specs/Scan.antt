@@ -1,4 +1,4 @@
--- A field as the code finds it. Laws join it to Records; nothing here adds to document 01's meaning.
+-- For the code only: a field as the code finds it. Laws join it to Records.
 use mathlib.Core.Path.{_≡_}
 use mathlib.Core.Bool.{Bool, true, false, cond, _&&_}
 use mathlib.Core.List.{List, [], _∷_}
@@ -15,6 +15,7 @@ use Rattle.fields.specs.declared.FieldRead.{FieldRead}
 use Rattle.fields.specs.declared.Scanned.{Scanned}
 use Rattle.fields.specs.declared.Digits.{Digits}
 use Rattle.fields.specs.declared.ShortRead.{ShortRead}
+use Rattle.fields.specs.declared.ShortRead.the-variants.{Next, Last, Another}
 
 -- how many bytes stand before the first comma or LF: all of them where there is none
 unfoldable pub fieldLength : List ℕ → ℕ
@@ -83,35 +84,29 @@ EndsInLF sheet = getD sheet (length sheet - 1) 0 ≡ LF
 abbrev pub isLeading : (byte : ℕ) → Bool
 isLeading byte = ltb 48 byte && leb byte 57
 
+-- a value below this stays below CAP with one digit more
+abbrev pub SHORT : ℕ
+SHORT = 100000000000000
+
 -- digits that a field starts with, and that one more would ask for the cap or is none
 pub record DigitsAt (sheet : List ℕ) (start : ℕ) (d : Digits) : Type 0 where
   pub scanned : Scanning sheet start (d .value) true (d .end)
   pub inside : d .end < length sheet
-  pub below : d .value < 1000000000000
-  pub stops : d .value < 100000000000 → isDigit (getD sheet (d .end) 0) ≡ false
+  pub below : d .value < CAP
+  pub stops : d .value < SHORT → isDigit (getD sheet (d .end) 0) ≡ false
 
 -- a word whose field ends before this byte, if it is a comma or LF
-abbrev pub beforeStop : (sheet : List ℕ) → (word end : ℕ) → ShortRead
-beforeStop sheet word end =
-    record {
-      read = cond (eqb (getD sheet end 0) COMMA) true (eqb (getD sheet end 0) LF);
-      word = word;
-      end = end;
-      more = eqb (getD sheet end 0) COMMA;
-    }
+abbrev pub endedWord : (sheet : List ℕ) → (word end : ℕ) → ShortRead
+endedWord sheet word end =
+    cond (eqb (getD sheet end 0) COMMA) (Next word end) (cond (eqb (getD sheet end 0) LF) (Last word end) Another)
 
--- the word of a number of twelve digits at most, or of `-`
+-- the word of a number below CAP, or of `-`
 abbrev pub isShort : (word : ℕ) → Bool
-isShort word = cond (ltb word 1000000000000) true (eqb word DASH)
+isShort word = cond (ltb word CAP) true (eqb word DASH)
 
--- the field that starts at a place of the sheet says this word and ends here, a comma or LF behind it
-pub record FieldBefore (sheet : List ℕ) (start said end : ℕ) (more : Bool) : Type 0 where
-  pub says : said ≡ word (fieldOf (fieldAt sheet start))
-  pub ends : end ≡ start + fieldLength (drop start sheet)
-  pub inside : end < length sheet
-  pub behind : more ≡ eqb (getD sheet end 0) COMMA
-
--- the field that starts at a place of the sheet is read if, and only if, it is a short one
-pub record ShortAt (sheet : List ℕ) (start : ℕ) (f : ShortRead) : Type 0 where
-  pub read : f .read ≡ isShort (word (fieldOf (fieldAt sheet start)))
-  pub before : f .read ≡ true → FieldBefore sheet start (f .word) (f .end) (f .more)
+-- the field that starts at a place of the sheet, if it is a short one and a comma or LF stands behind it
+unfoldable pub shortAt : (sheet : List ℕ) → (start : ℕ) → ShortRead
+shortAt sheet start =
+    cond (isShort (word (fieldOf (fieldAt sheet start))))
+    (endedWord sheet (word (fieldOf (fieldAt sheet start))) (start + fieldLength (drop start sheet)))
+    Another

@@ -5,12 +5,11 @@ ghost use Prim.Native.Nat.{_+_, min, _≤_, _<_};
 ghost use lib.ListN.{length, drop, getD};
 ghost use Rattle.decimal.specs.Number.{isDigit};
 ghost use Rattle.lines.specs.Words.{CAP};
-ghost use Rattle.fields.specs.Scan.{fieldLength, wordOf, digitsSaid, isLeading, beforeStop, ScannedAt, FieldReadAt, FieldBounds, EndsInLF, DigitsAt, ShortAt};
+ghost use Rattle.fields.specs.Scan.{fieldLength, wordOf, digitsSaid, isLeading, endedWord, shortAt};
+ghost use Rattle.fields.specs.Scan.{ScannedAt, FieldReadAt, FieldBounds, EndsInLF, DigitsAt};
+use lines::CAP;
 use lines::DASH;
 use lines::OTHER;
-
-// One above the highest number that any rule allows stands for all above it.
-pub const CAP: u64 = 1000000000001;
 
 // What a field says: a number, where CAP stands for each above it; `-`; or something else.
 pub enum Said {
@@ -38,17 +37,15 @@ struct Digits {
     end: usize,
 }
 
-// A field that is a short number or `-`: its word, the place of the byte behind it, and whether that is a comma. Where
-// `read` is false the field is another one.
-pub struct ShortRead {
-    pub read: bool,
-    pub word: u64,
-    pub end: usize,
-    pub more: bool,
+// A short number or `-`: its word, and the place of the comma behind it, or of the LF behind the line's last field. Or another field.
+pub enum ShortRead {
+    Another,
+    Next(u64, usize),
+    Last(u64, usize),
 }
 
 // A value below this stays below CAP with one digit more.
-const SHORT: u64 = 100000000000;
+const SHORT: u64 = 100000000000000;
 
 // A decimal digit, `0` to `9`.
 fn is_digit(byte: u8) -> bool
@@ -197,47 +194,35 @@ fn leading_digits(s: &[u8], start: usize) -> Digits
 }
 
 // A word whose field ends here, if a comma or LF stands here.
-fn before_stop(s: &[u8], word: u64, end: usize) -> ShortRead
+fn ended_word(s: &[u8], word: u64, end: usize) -> ShortRead
     requires { ⌜ end < length (now s) ⌝ }
-    ensures { λ r. ⌜ r ≡ beforeStop (now (s .entry)) word end ⌝ }
+    ensures { λ r. ⌜ r ≡ endedWord (now (s .entry)) word end ⌝ }
 {
     let stop = s[end];
     if stop == b',' {
-        return ShortRead {
-            read: true,
-            word,
-            end,
-            more: true,
-        };
+        return ShortRead::Next(word, end);
     }
-    ShortRead {
-        read: stop == b'\n',
-        word,
-        end,
-        more: false,
+    if stop == b'\n' {
+        return ShortRead::Last(word, end);
     }
+    ShortRead::Another
 }
 
-// The field that starts here, if it is a number of twelve digits at most or `-`.
+// The field that starts here, if it is a number below CAP or `-`.
 pub fn short_field(s: &[u8], start: usize) -> ShortRead
     requires { ⌜ (start < length (now s)) × EndsInLF (now s) ⌝ }
-    ensures { λ r. ⌜ ShortAt (now (s .entry)) start r ⌝ }
+    ensures { λ r. ⌜ r ≡ shortAt (now (s .entry)) start ⌝ }
 {
     let byte = s[start];
     if is_leading(byte) {
         let digits = leading_digits(s, start);
-        return before_stop(s, digits.value, digits.end);
+        return ended_word(s, digits.value, digits.end);
     }
     if byte == b'0' {
-        return before_stop(s, 0, start + 1);
+        return ended_word(s, 0, start + 1);
     }
     if byte == b'-' {
-        return before_stop(s, DASH, start + 1);
+        return ended_word(s, DASH, start + 1);
     }
-    ShortRead {
-        read: false,
-        word: 0,
-        end: start,
-        more: false,
-    }
+    ShortRead::Another
 }

@@ -1,4 +1,4 @@
--- A field and a line of the report as the code holds them, and their bytes. Laws join them to the report's definitions.
+-- For the code only: a field and a line of the report as the code holds them, and their bytes. Laws join them to the report's definitions.
 use mathlib.Core.List.{List, [], _∷_, _++_}
 use Prim.Native.Nat.{ℕ, _+_, _/_, _%_}
 use Rattle.decimal.specs.Spelling.{spelling}

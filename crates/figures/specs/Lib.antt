@@ -1,2 +1,2 @@
--- Fields and lines of the report as the code holds them.
+-- For the code only: Figures.
 pub mod Figures

@@ -88,12 +88,14 @@ module _ {pool output : ℕ} {m : ℕ → ℕ} {before : List ℕ} {to taken giv
     pub next-rises : given ≤ next
     next-rises = rw (next-at, given-at) (omega (arith, given-suc pool output m to))
 
-    pub pool-fits : {n : ℕ} (from : ℕ) → pool ≡ getD before from 0 → CanPassOn n from output m before → to < n → getD pools (to + 1) 0 + (next - given) < 2 ^ 64
+    pub pool-fits : {n : ℕ} (from : ℕ) → pool ≡ getD before from 0 → CanPassOn n from output m before → to < n
+        → getD pools (to + 1) 0 + (next - given) < 2 ^ 64
     pool-fits {n} from e c h =
         let r = rw (← e, portion-is pool output m n (suc to) (omega arith) (omega arith)) at (c .room (suc to) (omega arith) h) in
         rw (add-one to, portion-next) (omega (arith, p .rest (suc to) (λ u v. omega arith)))
 
-    given-away : suc to < length before → Passing pool output m before (suc to) (taken + m (to + 1)) next (set pools (suc to) (getD pools (suc to) 0 + (next - given)))
+    given-away : suc to < length before
+        → Passing pool output m before (suc to) (taken + m (to + 1)) next (set pools (suc to) (getD pools (suc to) 0 + (next - given)))
     given-away h =
         record {
           size = length-set pools (suc to) _ ∙ p .size;
@@ -110,7 +112,8 @@ module _ {pool output : ℕ} {m : ℕ → ℕ} {before : List ℕ} {to taken giv
             (omega (arith, p .rest (suc to) (λ u v. omega arith)))
         go k l u false e = let ne = eqb-false k (suc to) e in getD-set-other pools (suc to) k _ 0 ne ∙ p .done k l (omega arith)
 
-    pub passing-next : to + 1 < length before → Passing pool output m before (to + 1) (taken + m (to + 1)) next (set pools (to + 1) (getD pools (to + 1) 0 + (next - given)))
+    pub passing-next : to + 1 < length before
+        → Passing pool output m before (to + 1) (taken + m (to + 1)) next (set pools (to + 1) (getD pools (to + 1) 0 + (next - given)))
     passing-next h = rw (add-one to) (rw (add-one to) at (given-away (omega arith)))
 
   pub taken-fits : (n : ℕ) → sumTo n m ≤ output → to < n → taken + m (to + 1) ≤ output
@@ -120,12 +123,12 @@ module _ {pool output : ℕ} {m : ℕ → ℕ} {before : List ℕ} {to taken giv
   given-fits n within h = rw (p .given-is) (given-le pool taken output (omega (arith, p .taken-is, sum-mono to n m h)))
 
   -- all processes have had their portions
-  pub passing-all : (n : ℕ) → n ≡ to → PassedOn n pool output m before pools (pool - given)
+  pub passing-all : (n from : ℕ) → pool ≡ getD before from 0 → n ≡ to → PassedOn n from output m before pools (pool - given)
   unfolding left
-  passing-all n e =
+  passing-all n from own e =
       rw e (record {
         size = p .size;
-        taken = λ k l h. rw (portion-is pool output m to k l h) (p .done k l h);
+        taken = λ k l h. rw (← own, portion-is pool output m to k l h) (p .done k l h);
         outside = p .rest;
-        left-is = rw (takers-kilos m to, ← p .taken-is, ← p .given-is);
+        left-is = rw (← own, takers-kilos m to, ← p .taken-is, ← p .given-is);
       })

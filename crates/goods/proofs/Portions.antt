@@ -6,7 +6,8 @@ use mathlib.Core.Bool.{Bool, true, false, cond}
 use mathlib.Core.List.{List, [], _∷_, _++_, append-nil}
 use Prim.Native.Nat.{ℕ, zero, suc, _+_, _*_, _-_, _/_, _≤_, _<_}
 use native.Mathlib.Omega.{arith}
-use native.Mathlib.Nat.{mul-zero, zero-div, div-le-of-le-mul, mul-le-mul-left, mul-comm, le-div-iff-mul-le, div-mul-le-self, eq-zero-or-pos, div-zero, le-trans, le-refl}
+use native.Mathlib.Nat.{mul-zero, zero-div, div-le-of-le-mul, mul-le-mul-left, mul-comm}
+use native.Mathlib.Nat.{le-div-iff-mul-le, div-mul-le-self, eq-zero-or-pos, div-zero, le-trans, le-refl}
 use lib.Dec.{eqb}
 use lib.ListN.{length, take, length-append, List·getD-append}
 use lib.Seq.{take-append-le, take-append-seam, take-all, take-length, getD-append-seam}
@@ -92,10 +93,12 @@ module _ (pool output : ℕ) where
       (sum-cong (length ts) _ _ same))
     where
       same : (k : ℕ) → 1 ≤ k → k ≤ length ts
-          → onlyAt j (takerAt (ts ++ (t ∷ [])) k .process) (portion pool output (ts ++ (t ∷ [])) k) ≡ onlyAt j (takerAt ts k .process) (portion pool output ts k)
+          → onlyAt j (takerAt (ts ++ (t ∷ [])) k .process) (portion pool output (ts ++ (t ∷ [])) k)
+          ≡ onlyAt j (takerAt ts k .process) (portion pool output ts k)
       same zero l h = absurd (omega arith)
       same (suc k) l h =
-          rw (List·getD-append ts (t ∷ []) (taker 0 0) k h, take-append-le (suc k) ts (t ∷ []) h, take-append-le k ts (t ∷ []) (let g : k ≤ length ts = omega arith in g))
+          let g : k ≤ length ts = omega arith in
+          rw (List·getD-append ts (t ∷ []) (taker 0 0) k h, take-append-le (suc k) ts (t ∷ []) h, take-append-le k ts (t ∷ []) g)
 
   module _ (m : ℕ → ℕ) where
     -- the portions with one process more, which may take nothing

@@ -10,9 +10,11 @@ use lib.Dec.{eqb}
 use lib.ListN.{length, getD, set, replicate, length-set, length-replicate}
 use lib.Seq.{getD-set-same, getD-set-other}
 use borrow.Author.Tests.{eqb-true, eqb-false}
+use Rattle.quantity.specs.Limits.{wholeGrams}
 use Rattle.goods.specs.Sums.{sumTo}
 use Rattle.goods.specs.Goods.{takers, portionOf, poolOf, leftOf}
-use Rattle.goods.specs.Settling.{CanPassOn, PassedOn, Settleable, PoolsSettled}
+use Rattle.goods.specs.ByProcess.{SIZE, figures, Column}
+use Rattle.goods.specs.Settling.{pairs, CanPassOn, PassedOn, Settleable, poolHeld, PoolsSettled}
 use Rattle.goods.proofs.Sums.{sum-suc, sum-mono}
 use Rattle.goods.proofs.Portions.{portion-is}
 use Rattle.goods.proofs.Pools.{pool-is, pool-le}
@@ -63,36 +65,31 @@ module _ (n : ℕ) (output : ℕ → ℕ) (kilos : ℕ → ℕ → ℕ) (own : �
           | no h ↦ (let l = lt-of-not-le h in omega (arith, held-turn k, sum-mono i k (λ t. portionFrom t (suc k)) (omega arith)))
         ]
 
-    pool-small : (k : ℕ) → suc k ≤ n → pool (suc k) < 2 ^ 63
+    pool-small : (k : ℕ) → suc k ≤ n → pool (suc k) < wholeGrams
     pool-small k h = omega (arith, s .total, pool-le n output kilos own (s .ahead) (s .within) k h, sum-mono (suc k) n own h)
 
   -- ---- in arrays
 
-  pub record Settling (size i : ℕ) (pools lefts : List ℕ) : Type 0 where
-    pub pools-size : length pools ≡ size
-    pub lefts-size : length lefts ≡ size
-    pub held-is : (k : ℕ) → 1 ≤ k → k ≤ n → getD pools k 0 ≡ held i k
-    pub own-outside : (k : ℕ) → (1 ≤ k → k ≤ n → ⊥) → getD pools k 0 ≡ own k
-    pub lefts-done : (k : ℕ) → 1 ≤ k → k ≤ i → getD lefts k 0 ≡ leftOf n output kilos own k
-    pub lefts-none : (k : ℕ) → (1 ≤ k → k ≤ i → ⊥) → getD lefts k 0 ≡ 0
+  pub record Settling (i : ℕ) (pools lefts : List ℕ) : Type 0 where
+    pub pool : Column n (held i) pools
+    pub pool-outside : (k : ℕ) → (1 ≤ k → k ≤ n → ⊥) → getD pools k 0 ≡ own k
+    pub rest : Column i (leftOf n output kilos own) lefts
+    pub left-outside : (k : ℕ) → (1 ≤ k → k ≤ i → ⊥) → getD lefts k 0 ≡ 0
 
-  pub settling-none : (size : ℕ) (pools : List ℕ) → length pools ≡ size → ((k : ℕ) → getD pools k 0 ≡ own k) → Settling size 0 pools (replicate size 0)
+  pub settling-none : (pools : List ℕ) → length pools ≡ SIZE → ((k : ℕ) → getD pools k 0 ≡ own k) → Settling 0 pools (replicate SIZE 0)
   unfolding held sumTo
-  settling-none size pools e same =
-      record {
-        pools-size = e;
-        lefts-size = length-replicate size 0;
-        held-is = λ k l h. omega (arith, same k);
-        own-outside = λ k o. same k;
-        lefts-done = λ k l h. absurd (omega arith);
-        lefts-none = λ k o. zeros size k;
-      }
+  settling-none pools e same = record {
+    pool = record { size = e; at = λ k l h. omega (arith, same k) };
+    pool-outside = λ k o. same k;
+    rest = record { size = length-replicate {A = ℕ} SIZE 0; at = λ k l h. absurd (omega arith) };
+    left-outside = λ k o. zeros SIZE k;
+  }
 
-module _ {n : ℕ} {output : ℕ → ℕ} {kilos : ℕ → ℕ → ℕ} {own : ℕ → ℕ} {size i : ℕ} {pools lefts : List ℕ}
-    (s : Settleable n output kilos own) (t : Settling n output kilos own size i pools lefts) where
+module _ {n : ℕ} {output : ℕ → ℕ} {kilos : ℕ → ℕ → ℕ} {own : ℕ → ℕ} {i : ℕ} {pools lefts : List ℕ}
+    (s : Settleable n output kilos own) (t : Settling n output kilos own i pools lefts) where
   -- the next process holds its pool
   pool-next : i < n → getD pools (suc i) 0 ≡ poolOf n output kilos own (suc i)
-  pool-next h = t .held-is (suc i) (omega arith) h ∙ held-turn n output kilos own i
+  pool-next h = t .pool .at (suc i) (omega arith) h ∙ held-turn n output kilos own i
 
   can-pass-on : i < n → CanPassOn n (suc i) (output (suc i)) (kilos (suc i)) pools
   can-pass-on h =
@@ -108,45 +105,53 @@ module _ {n : ℕ} {output : ℕ → ℕ} {kilos : ℕ → ℕ → ℕ} {own : �
       room zero l u = absurd (omega arith)
       room (suc k) l u =
           rw (pool-next h)
-          (omega (arith, t .held-is (suc k) l u, held-next n output kilos own i (suc k), held-le n output kilos own s k (suc i) h, pool-small n output kilos own s k u))
+          (omega (
+            arith,
+            t .pool .at (suc k) l u,
+            held-next n output kilos own i (suc k),
+            held-le n output kilos own s k (suc i) h,
+            pool-small n output kilos own s k u,
+          ))
 
   pub settling-can : {j : ℕ} → j ≡ suc i → i < n → CanPassOn n j (output j) (kilos j) pools
   settling-can e h = rw e (can-pass-on h)
 
-  passed : {after : List ℕ} {rest : ℕ} → i < n → suc i < size
-      → PassedOn n (getD pools (suc i) 0) (output (suc i)) (kilos (suc i)) pools after rest → Settling n output kilos own size (suc i) after (set lefts (suc i) rest)
+  passed : {after : List ℕ} {rest : ℕ} → i < n → suc i < SIZE
+      → PassedOn n (suc i) (output (suc i)) (kilos (suc i)) pools after rest → Settling n output kilos own (suc i) after (set lefts (suc i) rest)
   unfolding leftOf
   passed {after} {rest} h u p =
       record {
-        pools-size = p .size ∙ t .pools-size;
-        lefts-size = length-set lefts (suc i) rest ∙ t .lefts-size;
-        held-is = λ k a b. p .taken k a b ∙ rw (pool-next h, held-next n output kilos own i k, t .held-is k a b);
-        own-outside = λ k o. p .outside k o ∙ t .own-outside k o;
-        lefts-done = λ k a b. go k a b (eqb k (suc i)) refl;
-        lefts-none = λ k o. getD-set-other lefts (suc i) k rest 0 (λ (e : k ≡ suc i). o (omega arith) (omega arith)) ∙ t .lefts-none k (λ a b. o a (omega arith));
+        pool = record {
+          size = p .size ∙ t .pool .size;
+          at = λ k a b. p .taken k a b ∙ rw (pool-next h, held-next n output kilos own i k, t .pool .at k a b);
+        };
+        pool-outside = λ k o. p .outside k o ∙ t .pool-outside k o;
+        rest = record { size = length-set lefts (suc i) rest ∙ t .rest .size; at = λ k a b. go k a b (eqb k (suc i)) refl };
+        left-outside = λ k o.
+            getD-set-other lefts (suc i) k rest 0 (λ (e : k ≡ suc i). o (omega arith) (omega arith)) ∙ t .left-outside k (λ a b. o a (omega arith));
       }
     where
       go : (k : ℕ) → 1 ≤ k → k ≤ suc i → (b : Bool) → eqb k (suc i) ≡ b → getD (set lefts (suc i) rest) k 0 ≡ leftOf n output kilos own k
       go k a b true e =
-          rw (eqb-true k (suc i) e) (getD-set-same lefts (suc i) rest 0 (omega (arith, t .lefts-size)) ∙ p .left-is ∙ rw (pool-next h))
-      go k a b false e = let ne = eqb-false k (suc i) e in getD-set-other lefts (suc i) k rest 0 ne ∙ t .lefts-done k a (omega arith)
+          rw (eqb-true k (suc i) e) (getD-set-same lefts (suc i) rest 0 (omega (arith, t .rest .size)) ∙ p .left-is ∙ rw (pool-next h))
+      go k a b false e = let ne = eqb-false k (suc i) e in getD-set-other lefts (suc i) k rest 0 ne ∙ t .rest .at k a (omega arith)
 
-  pub settling-next : {j : ℕ} {after : List ℕ} {rest : ℕ} → j ≡ suc i → i < n → j < size
-      → PassedOn n (getD pools j 0) (output j) (kilos j) pools after rest → Settling n output kilos own size j after (set lefts j rest)
+  pub settling-next : {j : ℕ} {after : List ℕ} {rest : ℕ} → j ≡ suc i → i < n → j < SIZE
+      → PassedOn n j (output j) (kilos j) pools after rest → Settling n output kilos own j after (set lefts j rest)
   settling-next e h u p = rw e (passed h (rw e at u) (rw e at p))
 
-  -- all processes have had their turn
-  pub settling-all : n ≡ i → PoolsSettled size n output kilos own pools lefts
+-- all processes have had their turn
+module _ {outputs kilos before pools lefts : List ℕ} {n i : ℕ} (s : Settleable n (figures outputs) (pairs kilos) (figures before))
+    (t : Settling n (figures outputs) (pairs kilos) (figures before) i pools lefts) where
+  pub settling-all : n ≡ i → PoolsSettled outputs kilos n before pools lefts
   settling-all e =
       record {
-        pools-size = t .pools-size;
-        lefts-size = t .lefts-size;
-        pool-is = at-pool;
-        left-is = λ k a b. t .lefts-done k a (omega arith);
-        pool-outside = t .own-outside;
-        left-outside = λ k o. t .lefts-none k (λ a b. o a (omega arith));
+        pool = record { size = t .pool .size; at = at-pool };
+        rest = record { size = t .rest .size; at = λ k a b. t .rest .at k a (omega arith) };
+        pool-outside = t .pool-outside;
+        left-outside = λ k o. t .left-outside k (λ a b. o a (omega arith));
       }
     where
-      at-pool : (k : ℕ) → 1 ≤ k → k ≤ n → getD pools k 0 ≡ poolOf n output kilos own k
+      at-pool : (k : ℕ) → 1 ≤ k → k ≤ n → getD pools k 0 ≡ poolHeld outputs kilos n (figures before) k
       at-pool zero a b = absurd (omega arith)
-      at-pool (suc k) a b = t .held-is (suc k) a b ∙ held-after n output kilos own s k i (omega arith) (omega arith)
+      at-pool (suc k) a b = t .pool .at (suc k) a b ∙ held-after n (figures outputs) (pairs kilos) (figures before) s k i (omega arith) (omega arith)

@@ -1,4 +1,4 @@
--- Worked examples of portions, with figures worked out by hand.
+-- Examples. Portions, with figures worked out by hand.
 use mathlib.Core.List.{List, [], _∷_, map}
 use Prim.Native.Nat.{ℕ}
 use lib.ListN.{getD}

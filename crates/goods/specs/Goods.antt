@@ -1,4 +1,4 @@
--- Document 01, "Goods and precursors".
+-- For the reader. Document 01, "Goods and precursors": pools, portions and what is left.
 use mathlib.Core.Bool.{cond}
 use mathlib.Core.List.{List, [], _∷_, _++_}
 use Prim.Native.Nat.{ℕ, zero, suc, _+_, _*_, _-_, _/_}

@@ -1,5 +1,6 @@
--- Document 01, "Goods and precursors".
+-- For the reader: Sums, Goods, ByProcess. For the code only: Settling. Examples: Cases.
 pub mod Sums
 pub mod Goods
+pub mod ByProcess
 pub mod Cases
 pub mod Settling

@@ -1,19 +1,13 @@
--- What settling the pools of a works asks and gives: document 01, "Goods and precursors", over the arrays of the code.
+-- For the code only: what settling the pools of a works asks and gives, over the arrays that the code holds.
 use mathlib.Core.Path.{_≡_}
 use mathlib.Core.List.{List}
 use Prim.Native.Nat.{ℕ, _+_, _*_, _^_, _≤_, _<_}
 use lib.ListN.{length, getD, replicate}
-use Rattle.quantity.specs.Limits.{limits}
+use Rattle.quantity.specs.Limits.{wholeGrams}
 use Rattle.goods.specs.Sums.{sumTo}
 use Rattle.goods.specs.Goods.{takers, portionOf, left, poolOf, leftOf}
-
--- ---- places: processes are 1 .. PROCESSES, and place 0 is outside the works
-
-abbrev pub PROCESSES : ℕ
-PROCESSES = limits .processes
-
-abbrev pub SIZE : ℕ
-SIZE = PROCESSES + 1
+use Rattle.goods.specs.ByProcess.{figures, Column}
+pub use Rattle.goods.specs.ByProcess.{SIZE}
 
 abbrev pub PAIRS : ℕ
 PAIRS = SIZE * SIZE
@@ -21,10 +15,6 @@ PAIRS = SIZE * SIZE
 -- 2 ^ 61 kilograms, the most that `share` divides by: a sheet has at most 10,000,000,000
 abbrev pub largestOutput : ℕ
 largestOutput = 2305843009213693952
-
--- the figure of process k
-abbrev pub figures : List ℕ → (k : ℕ) → ℕ
-figures l k = getD l k 0
 
 -- the kilograms from process i to process j
 abbrev pub pairs : List ℕ → (i j : ℕ) → ℕ
@@ -41,11 +31,11 @@ pub record CanPassOn (n from output : ℕ) (kilosTo : ℕ → ℕ) (pools : List
   pub room : (k : ℕ) → 1 ≤ k → k ≤ n → getD pools k 0 + portionOf (getD pools from 0) output (takers kilosTo n) k < 2 ^ 64
 
 -- the pools afterwards, and what is left of the process's own pool
-pub record PassedOn (n pool output : ℕ) (kilosTo : ℕ → ℕ) (before after : List ℕ) (rest : ℕ) : Type 0 where
+pub record PassedOn (n from output : ℕ) (kilosTo : ℕ → ℕ) (before after : List ℕ) (rest : ℕ) : Type 0 where
   pub size : length after ≡ length before
-  pub taken : (k : ℕ) → 1 ≤ k → k ≤ n → getD after k 0 ≡ getD before k 0 + portionOf pool output (takers kilosTo n) k
+  pub taken : (k : ℕ) → 1 ≤ k → k ≤ n → getD after k 0 ≡ getD before k 0 + portionOf (getD before from 0) output (takers kilosTo n) k
   pub outside : (k : ℕ) → (1 ≤ k → k ≤ n → ⊥) → getD after k 0 ≡ getD before k 0
-  pub left-is : rest ≡ left pool output (takers kilosTo n)
+  pub left-is : rest ≡ left (getD before from 0) output (takers kilosTo n)
 
 -- ---- a works of n processes
 
@@ -54,17 +44,23 @@ pub record Settleable (n : ℕ) (output : ℕ → ℕ) (kilos : ℕ → ℕ → 
   pub small : (i : ℕ) → 1 ≤ i → i ≤ n → output i ≤ largestOutput
   pub ahead : (i j : ℕ) → 1 ≤ j → j ≤ i → i ≤ n → kilos i j ≡ 0
   pub within : (i : ℕ) → 1 ≤ i → i ≤ n → sumTo n (kilos i) ≤ output i
-  pub total : sumTo n own < 2 ^ 63
+  pub total : sumTo n own < wholeGrams
 
 -- an array that holds nothing yet
 abbrev pub NoFigures : List ℕ → Type 0
 NoFigures l = l ≡ replicate SIZE 0
 
--- the pools and what is left of each, in arrays of `size` places; outside 1 .. n pools are the own grams, and nothing is left
-pub record PoolsSettled (size n : ℕ) (output : ℕ → ℕ) (kilos : ℕ → ℕ → ℕ) (own : ℕ → ℕ) (pools lefts : List ℕ) : Type 0 where
-  pub pools-size : length pools ≡ size
-  pub lefts-size : length lefts ≡ size
-  pub pool-is : (k : ℕ) → 1 ≤ k → k ≤ n → getD pools k 0 ≡ poolOf n output kilos own k
-  pub left-is : (k : ℕ) → 1 ≤ k → k ≤ n → getD lefts k 0 ≡ leftOf n output kilos own k
-  pub pool-outside : (k : ℕ) → (1 ≤ k → k ≤ n → ⊥) → getD pools k 0 ≡ own k
+-- over the arrays that the code holds: the pools and what is left of each, of n processes, each with its own grams
+module _ (outputs kilos : List ℕ) (n : ℕ) (own : ℕ → ℕ) where
+  abbrev pub poolHeld : (k : ℕ) → ℕ
+  poolHeld k = poolOf n (figures outputs) (pairs kilos) own k
+
+  abbrev pub leftHeld : (k : ℕ) → ℕ
+  leftHeld k = leftOf n (figures outputs) (pairs kilos) own k
+
+-- the pools and what is left of each; outside 1 .. n pools are as before, and nothing is left
+pub record PoolsSettled (outputs kilos : List ℕ) (n : ℕ) (before pools lefts : List ℕ) : Type 0 where
+  pub pool : Column n (poolHeld outputs kilos n (figures before)) pools
+  pub rest : Column n (leftHeld outputs kilos n (figures before)) lefts
+  pub pool-outside : (k : ℕ) → (1 ≤ k → k ≤ n → ⊥) → getD pools k 0 ≡ getD before k 0
   pub left-outside : (k : ℕ) → (1 ≤ k → k ≤ n → ⊥) → getD lefts k 0 ≡ 0

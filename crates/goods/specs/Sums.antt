@@ -1,4 +1,4 @@
--- Sums over processes.
+-- For the reader. Document 01, "Attribution" and "Goods and precursors": sums over processes.
 use mathlib.Core.Bool.{cond}
 use Prim.Native.Nat.{ℕ, zero, suc, _+_}
 use lib.Dec.{eqb}

@@ -2,7 +2,8 @@
 ghost use mathlib.Core.Path.{_≡_};
 ghost use Prim.Native.Nat.{_≤_};
 ghost use lib.ListN.{length};
-ghost use Rattle.goods.specs.Settling.{PROCESSES, SIZE, figures, pairs, CanPassOn, PassedOn, Settleable, NoFigures, PoolsSettled};
+ghost use Rattle.goods.specs.ByProcess.{PROCESSES, SIZE, figures};
+ghost use Rattle.goods.specs.Settling.{pairs, CanPassOn, PassedOn, Settleable, NoFigures, PoolsSettled};
 use quantity::Grams;
 use quantity::Kilos;
 use quantity::limits::PROCESSES;
@@ -37,7 +38,7 @@ fn pass_on(
     requires { ⌜ (from ≤ count) × (count ≤ PROCESSES) ⌝ }
     requires { ⌜ length (now pools) ≡ SIZE ⌝ }
     requires { ⌜ CanPassOn count from (output .0) (pairs (now kilos) from) (now pools) ⌝ }
-    ensures { λ r. ⌜ PassedOn count (figures (now (pools .entry)) from) (output .0) (pairs (now (kilos .entry)) from) (now (pools .entry)) (now (pools .exit)) (r .0) ⌝ }
+    ensures { λ r. ⌜ PassedOn count from (output .0) (pairs (now (kilos .entry)) from) (now (pools .entry)) (now (pools .exit)) (r .0) ⌝ }
 {
     let pool = pools[from];
     let parts = parted(Grams(pool), output);
@@ -72,7 +73,7 @@ pub fn settle(
     requires { ⌜ count ≤ PROCESSES ⌝ }
     requires { ⌜ Settleable count (figures (outputs .0)) (pairs (now kilos)) (figures (now pools)) ⌝ }
     requires { ⌜ (length (now pools) ≡ SIZE) × NoFigures (now lefts) ⌝ }
-    ensures { λ r. ⌜ PoolsSettled SIZE count (figures (outputs .0)) (pairs (now (kilos .entry))) (figures (now (pools .entry))) (now (pools .exit)) (now (lefts .exit)) ⌝ }
+    ensures { λ r. ⌜ PoolsSettled (outputs .0) (now (kilos .entry)) count (now (pools .entry)) (now (pools .exit)) (now (lefts .exit)) ⌝ }
 {
     let mut i = 1;
     while i <= count {

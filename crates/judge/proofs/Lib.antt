@@ -1,6 +1,4 @@
 -- Laws that the crates above cite.
-pub mod Chain
-pub mod FieldWords
-pub mod Shaped
-pub mod Methods
-pub mod LineNumber
+pub mod Words
+pub mod Shape
+pub mod Line

@@ -1,2 +1,2 @@
--- What the code judges, joined to document 01's definitions by laws.
-pub mod Code
+-- For the code only: Line.
+pub mod Line

@@ -8,7 +8,7 @@ use native.Mathlib.Omega.{arith}
 use lib.IntN.{ℤ, pos, natAbs, _+ℤ_, _-ℤ_}
 use lib.ListN.{length, getD, set, replicate, length-set, length-replicate}
 use lib.Seq.{getD-set-same, getD-set-other, set-out}
-use Rattle.goods.specs.Settling.{SIZE}
+use Rattle.goods.specs.ByProcess.{SIZE}
 use Rattle.ledger.specs.declared.Entry.{Entry}
 use Rattle.ledger.specs.declared.Ledger.{Ledger}
 use Rattle.ledger.specs.Ledger.{STEP, added, chargedAndCredited, booked, start, Small, Within, Sized}
@@ -83,12 +83,12 @@ unfolding booked
 within-booked k l e w s = record {
   balances = λ i.
       omega (arith, each-credited k (l .balances .0) (w .balances) (e .charged) (e .charge .0) (e .credited) (e .credit .0) i, s .moved);
-  indirect = each-added k STEP (l .indirect .0) (e .user) (e .power .0) (omega (arith, s .into)) (w .indirect);
+  indirect = each-added k STEP (l .indirect .0) (e .user) (e .electricity .0) (omega (arith, s .into)) (w .indirect);
   bought-direct = each-added k STEP (l .«bought_direct» .0) (e .buyer) (e .direct .0) (omega (arith, s .into)) (w .bought-direct);
   bought-indirect = each-added k STEP (l .«bought_indirect» .0) (e .buyer) (e .indirect .0) (omega (arith, s .into)) (w .bought-indirect);
   entered =
       omega (arith, size-moved STEP (l .totals .entered .0) (e .entering .0) (e .leaving .0) (s .entering) (s .leaving), w .entered);
-  uncredited = omega (arith, w .uncredited, s .lost);
+  uncredited = omega (arith, w .uncredited, s .uncredited);
 }
 
 -- ---- lengths

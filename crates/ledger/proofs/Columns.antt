@@ -6,14 +6,18 @@ use native.Mathlib.Decide.{ℕ-discrete}
 use native.Mathlib.Omega.{arith}
 use lib.ListN.{set, replicate, length-set, length-replicate}
 use lib.Seq.{getD-set-same, getD-set-other}
-use Rattle.goods.specs.Settling.{SIZE}
-use Rattle.ledger.specs.Columns.{Column}
+use Rattle.goods.specs.ByProcess.{SIZE, Column}
+use Rattle.ledger.specs.Columns.{NoneOutside}
 use Rattle.ledger.proofs.Bounds.{each-same}
 
 pub column-none : (figure : ℕ → ℕ) → Column 0 figure (replicate SIZE 0)
 column-none figure = record {
   size = length-replicate {A = ℕ} SIZE 0;
   at = λ k l h. absurd (omega arith);
+}
+
+pub outside-none : NoneOutside 0 (replicate SIZE 0)
+outside-none = record {
   outside = each-same (λ (n : ℕ). n ≡ 0) 0 refl SIZE 0;
   beyond = λ k l. each-same (λ (n : ℕ). n ≡ 0) 0 refl SIZE k;
 }
@@ -28,6 +32,10 @@ column-more n figure a v room c e = record {
         | yes p ↦ rw (p, getD-set-same a (n + 1) v 0 (rw (c .size) room)) e
         | no p ↦ getD-set-other a (n + 1) k v 0 p ∙ c .at k l (omega arith)
       ];
+}
+
+pub outside-more : (n : ℕ) (a : List ℕ) (v : ℕ) → NoneOutside n a → NoneOutside (n + 1) (set a (n + 1) v)
+outside-more n a v c = record {
   outside = getD-set-other a (n + 1) 0 v 0 (λ p. omega arith) ∙ c .outside;
   beyond = λ k l. getD-set-other a (n + 1) k v 0 (λ p. omega arith) ∙ c .beyond k (omega arith);
 }

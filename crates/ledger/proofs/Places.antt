@@ -44,9 +44,9 @@ module _ (l : Ledger) (e : Entry) (s : Sized l) (m : Small e) (i : ℕ) where
       place-balance (l .balances .0) (e .charged) (e .charge .0) (e .credited) (e .credit .0) i
       (rw (s .balances) (m .charged-in)) (rw (s .balances) (m .credited-in))
 
-  pub indirect-booked : getD (booked l e .indirect .0) i 0 ≡ getD (l .indirect .0) i 0 + onlyAt i (e .user) (e .power .0)
+  pub indirect-booked : getD (booked l e .indirect .0) i 0 ≡ getD (l .indirect .0) i 0 + onlyAt i (e .user) (e .electricity .0)
   unfolding booked
-  indirect-booked = place-added (l .indirect .0) (e .user) (e .power .0) i (rw (s .indirect) (m .user-in))
+  indirect-booked = place-added (l .indirect .0) (e .user) (e .electricity .0) i (rw (s .indirect) (m .user-in))
 
   pub bought-direct-booked : getD (booked l e .«bought_direct» .0) i 0
       ≡ getD (l .«bought_direct» .0) i 0 + onlyAt i (e .buyer) (e .direct .0)

@@ -1,17 +1,15 @@
--- A figure of each process, by its number.
+-- For the code only: what an array holds at the number of each process, and how large it is.
 use mathlib.Core.Path.{_≡_}
 use mathlib.Core.List.{List}
 use Prim.Native.Nat.{ℕ, _+_, _^_, _≤_, _<_}
 use lib.IntN.{ℤ, pos, natAbs}
-use lib.ListN.{length, getD}
-use Rattle.goods.specs.Settling.{SIZE}
+use lib.ListN.{getD}
+use Rattle.goods.specs.ByProcess.{SIZE, figures}
 
--- the array has the figure of each process 1 .. count at its number, and 0 elsewhere
-pub record Column (count : ℕ) (figure : ℕ → ℕ) (a : List ℕ) : Type 0 where
-  pub size : length a ≡ SIZE
-  pub at : (k : ℕ) → 1 ≤ k → k ≤ count → getD a k 0 ≡ figure k
-  pub outside : getD a 0 0 ≡ 0
-  pub beyond : (k : ℕ) → count < k → getD a k 0 ≡ 0
+-- the array has 0 outside 1 .. count
+pub record NoneOutside (count : ℕ) (a : List ℕ) : Type 0 where
+  pub outside : figures a 0 ≡ 0
+  pub beyond : (k : ℕ) → count < k → figures a k ≡ 0
 
 -- the signed figure of process k
 abbrev pub signedFigures : List ℤ → (k : ℕ) → ℤ
@@ -24,9 +22,9 @@ AtMost most l = (k : ℕ) → getD l k 0 ≤ most
 abbrev pub SizeAtMost : (most : ℕ) → List ℤ → Type 0
 SizeAtMost most l = (k : ℕ) → natAbs (getD l k (pos 0)) ≤ most
 
--- with one entry more a figure of this size stays below 2^63
-abbrev pub ROOMY : ℕ
-ROOMY = 9200000000000000000
+-- the most that a figure may be, its sign aside, before an entry is booked: with the entry it still stays below 2^63
+abbrev pub BEFORE_ENTRY : ℕ
+BEFORE_ENTRY = 9200000000000000000
 
 -- an amount can be added in one place
 abbrev pub RoomAt : List ℕ → (k amount : ℕ) → Type 0

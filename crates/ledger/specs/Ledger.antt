@@ -1,14 +1,14 @@
--- What booking an entry does to the figures of a works.
+-- For the code only: what booking an entry does to the figures of a works. Laws join it to document 01's equations.
 use mathlib.Core.List.{List}
 use Prim.Native.Nat.{ℕ, _+_, _≤_, _<_}
 use lib.IntN.{ℤ, pos, natAbs, _+ℤ_, _-ℤ_}
 use mathlib.Core.Path.{_≡_}
 use lib.ListN.{length, getD, set, replicate}
-use Rattle.goods.specs.Settling.{SIZE}
+use Rattle.goods.specs.ByProcess.{SIZE}
 use Rattle.ledger.specs.declared.Entry.{Entry}
 use Rattle.ledger.specs.declared.Ledger.{Ledger}
 use Rattle.ledger.specs.declared.Totals.{Totals}
-use Rattle.ledger.specs.Columns.{AtMost, SizeAtMost, ROOMY}
+use Rattle.ledger.specs.Columns.{AtMost, SizeAtMost, BEFORE_ENTRY}
 
 -- the most grams that one line adds to the figures
 abbrev pub STEP : ℕ
@@ -27,12 +27,12 @@ chargedAndCredited b charged charge credited credit =
 unfoldable pub booked : Ledger → Entry → Ledger
 booked l e = record {
   balances = record { 0 = chargedAndCredited (l .balances .0) (e .charged) (e .charge .0) (e .credited) (e .credit .0) };
-  indirect = record { 0 = added (l .indirect .0) (e .user) (e .power .0) };
+  indirect = record { 0 = added (l .indirect .0) (e .user) (e .electricity .0) };
   «bought_direct» = record { 0 = added (l .«bought_direct» .0) (e .buyer) (e .direct .0) };
   «bought_indirect» = record { 0 = added (l .«bought_indirect» .0) (e .buyer) (e .indirect .0) };
   totals = record {
     entered = record { 0 = l .totals .entered .0 +ℤ pos (e .entering .0) -ℤ pos (e .leaving .0) };
-    uncredited = record { 0 = l .totals .uncredited .0 + e .lost .0 };
+    uncredited = record { 0 = l .totals .uncredited .0 + e .uncredited .0 };
   };
 }
 
@@ -55,12 +55,12 @@ pub record Small (e : Entry) : Type 0 where
   pub user-in : e .user < SIZE
   pub buyer-in : e .buyer < SIZE
   -- what goes into processes
-  pub into : e .charge .0 + e .power .0 + e .direct .0 + e .indirect .0 ≤ STEP
+  pub into : e .charge .0 + e .electricity .0 + e .direct .0 + e .indirect .0 ≤ STEP
   -- what moves in a balance
   pub moved : e .charge .0 + e .credit .0 ≤ STEP
   pub entering : e .entering .0 ≤ STEP
   pub leaving : e .leaving .0 ≤ STEP
-  pub lost : e .lost .0 ≤ STEP
+  pub uncredited : e .uncredited .0 ≤ STEP
 
 -- every figure is at most k in size
 pub record Within (k : ℕ) (l : Ledger) : Type 0 where
@@ -73,7 +73,7 @@ pub record Within (k : ℕ) (l : Ledger) : Type 0 where
 
 -- there is room for one entry more: all figures stay below 2^63
 abbrev pub Room : Ledger → Type 0
-Room l = Within ROOMY l
+Room l = Within BEFORE_ENTRY l
 
 -- every array has all its places
 pub record Sized (l : Ledger) : Type 0 where

@@ -1,4 +1,4 @@
--- Document 01, "Attribution": "Below zero it is raised to 0; the grams added are `raised`."
+-- For the reader. Document 01, "Attribution": "Below zero it is raised to 0; the grams added are `raised`."
 use Prim.Native.Nat.{ℕ, suc}
 use lib.IntN.{ℤ, pos, negsuc}
 

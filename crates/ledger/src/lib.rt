@@ -1,12 +1,14 @@
 // The figures of a works while its lines are read: document 01, "Attribution". Each line is booked as one entry.
 ghost use mathlib.Core.Path.{_≡_};
 ghost use lib.IntN.{pos, natAbs, _+ℤ_, _-ℤ_};
-ghost use Prim.Native.Nat.{_+_, _^_, _≤_, _<_};
+ghost use Prim.Native.Nat.{_+_, _≤_, _<_};
+ghost use Rattle.quantity.specs.Limits.{wholeGrams};
 ghost use Rattle.goods.specs.Sums.{sumTo};
-ghost use Rattle.goods.specs.Settling.{SIZE, NoFigures, figures};
+ghost use Rattle.goods.specs.ByProcess.{SIZE, figures, Column};
+ghost use Rattle.goods.specs.Settling.{NoFigures};
 ghost use Rattle.ledger.specs.Ledger.{STEP, Small, added, chargedAndCredited};
 ghost use Rattle.ledger.specs.Raising.{gramsAdded, raisedToZero};
-ghost use Rattle.ledger.specs.Columns.{Column, ROOMY, SizeAtMost, RoomAt, FitTogether, signedFigures, together};
+ghost use Rattle.ledger.specs.Columns.{NoneOutside, BEFORE_ENTRY, SizeAtMost, RoomAt, FitTogether, signedFigures, together};
 use goods::GramsByProcess;
 use goods::SIZE;
 use goods::SignedGramsByProcess;
@@ -22,7 +24,7 @@ pub struct Entry {
     pub credit: Grams,
     // the process that uses power
     pub user: usize,
-    pub power: Grams,
+    pub electricity: Grams,
     // the process that buys a precursor
     pub buyer: usize,
     pub direct: Grams,
@@ -30,7 +32,7 @@ pub struct Entry {
     // what enters the works, leaves it, and stays uncredited
     pub entering: Grams,
     pub leaving: Grams,
-    pub lost: Grams,
+    pub uncredited: Grams,
 }
 
 // The grams of the whole works: what entered it, less what left it, and what stays uncredited.
@@ -48,9 +50,9 @@ pub struct Ledger {
     pub totals: Totals,
 }
 
-// A signed figure with grams added and grams taken off.
+// A signed figure with grams added and grams taken off. A balance may have had its charge already.
 fn changed(held: SignedGrams, more: Grams, less: Grams) -> SignedGrams
-    requires { ⌜ natAbs (held .0) ≤ 9210000000000000000 ⌝ }
+    requires { ⌜ natAbs (held .0) ≤ BEFORE_ENTRY + STEP ⌝ }
     requires { ⌜ (more .0 ≤ STEP) × (less .0 ≤ STEP) ⌝ }
     ensures { λ r. ⌜ r .0 ≡ held .0 +ℤ pos (more .0) -ℤ pos (less .0) ⌝ }
 {
@@ -62,7 +64,7 @@ fn changed(held: SignedGrams, more: Grams, less: Grams) -> SignedGrams
 
 // The balances with the charge added and the credit taken off.
 pub fn charge(balances: &mut [i64; SIZE], e: Entry)
-    requires { ⌜ SizeAtMost ROOMY (now balances) ⌝ }
+    requires { ⌜ SizeAtMost BEFORE_ENTRY (now balances) ⌝ }
     requires { ⌜ Small e ⌝ }
     ensures { λ r. ⌜ now (balances .exit) ≡ chargedAndCredited (now (balances .entry)) (e .charged) (e .charge .0) (e .credited) (e .credit .0) ⌝ }
 {
@@ -91,7 +93,7 @@ pub fn add(column: &mut [u64; SIZE], at: usize, grams: Grams)
 
 // What entered the works, with what the entry lets in and out.
 pub fn enter(entered: &mut i64, e: Entry)
-    requires { ⌜ natAbs (now entered) ≤ ROOMY ⌝ }
+    requires { ⌜ natAbs (now entered) ≤ BEFORE_ENTRY ⌝ }
     requires { ⌜ Small e ⌝ }
     ensures { λ r. ⌜ now (entered .exit) ≡ now (entered .entry) +ℤ pos (e .entering .0) -ℤ pos (e .leaving .0) ⌝ }
 {
@@ -108,7 +110,7 @@ pub struct Raised {
 }
 
 pub fn raise(balance: SignedGrams) -> Raised
-    requires { ⌜ natAbs (balance .0) ≤ ROOMY ⌝ }
+    requires { ⌜ natAbs (balance .0) ≤ BEFORE_ENTRY ⌝ }
     ensures direct { λ r. ⌜ r .direct .0 ≡ raisedToZero (balance .0) ⌝ }
     ensures raised { λ r. ⌜ r .raised .0 ≡ gramsAdded (balance .0) ⌝ }
 {
@@ -133,10 +135,11 @@ pub fn raise_all(
     count: usize,
 )
     requires { ⌜ count < SIZE ⌝ }
-    requires { ⌜ SizeAtMost ROOMY (now balances) ⌝ }
+    requires { ⌜ SizeAtMost BEFORE_ENTRY (now balances) ⌝ }
     requires { ⌜ NoFigures (now direct) × NoFigures (now raised) ⌝ }
     ensures direct { λ r. ⌜ Column count (λ k. raisedToZero (signedFigures (now (balances .entry)) k)) (now (direct .exit)) ⌝ }
     ensures raised { λ r. ⌜ Column count (λ k. gramsAdded (signedFigures (now (balances .entry)) k)) (now (raised .exit)) ⌝ }
+    ensures none_outside { λ r. ⌜ NoneOutside count (now (direct .exit)) × NoneOutside count (now (raised .exit)) ⌝ }
 {
     let mut done: usize = 0;
     while done < count {
@@ -155,6 +158,7 @@ pub fn add_all(both: &mut [u64; SIZE], a: &[u64; SIZE], b: &[u64; SIZE], count: 
     requires { ⌜ FitTogether count (now a) (now b) ⌝ }
     requires { ⌜ NoFigures (now both) ⌝ }
     ensures { λ r. ⌜ Column count (together (now (a .entry)) (now (b .entry))) (now (both .exit)) ⌝ }
+    ensures none_outside { λ r. ⌜ NoneOutside count (now (both .exit)) ⌝ }
 {
     let mut done: usize = 0;
     while done < count {
@@ -167,7 +171,7 @@ pub fn add_all(both: &mut [u64; SIZE], a: &[u64; SIZE], b: &[u64; SIZE], count: 
 // The figures of all processes together.
 pub fn total(a: &[u64; SIZE], count: usize) -> Grams
     requires { ⌜ count < SIZE ⌝ }
-    requires { ⌜ sumTo count (figures (now a)) < 2 ^ 63 ⌝ }
+    requires { ⌜ sumTo count (figures (now a)) < wholeGrams ⌝ }
     ensures { λ r. ⌜ r .0 ≡ sumTo count (figures (now (a .entry))) ⌝ }
 {
     let mut sum: u64 = 0;

@@ -3,12 +3,12 @@
 use mathlib.Core.Path.{_≡_, refl, sym, ap, ap₂, _∙_}
 use mathlib.Core.Bool.{Bool, true, false, cond, _&&_, not}
 use mathlib.Core.List.{List, [], _∷_, _++_, map, append-nil}
-use Prim.Native.Nat.{ℕ, zero, suc, _<_}
+use Prim.Native.Nat.{ℕ, zero, suc, _≤_, _<_}
 use native.Mathlib.Nat.{suc-add}
 use native.Mathlib.Numerals.{one-add}
 use native.Mathlib.Omega.{arith}
-use borrow.Author.Tests.{ne-eqb, eqb-true, leb-true, not-true}
-use lib.Dec.{eqb, leb}
+use borrow.Author.Tests.{ne-eqb, eqb-true, leb-true, ltb-true, not-true}
+use lib.Dec.{eqb, leb, ltb}
 use lib.ListN.{length, take, drop}
 use Rattle.decimal.specs.Number.{isDigit, allDigits, isNumber, value}
 use Rattle.decimal.specs.Spelling.{spelling}
@@ -16,10 +16,8 @@ use Rattle.decimal.proofs.Bools.{never, and-both}
 use Rattle.decimal.proofs.Spelling.{spelling-digits, spelling-value}
 use Rattle.decimal.proofs.OneSpelling.{spelling-number, number-spelling}
 use Rattle.lines.specs.Lines.{LF, COMMA, Line, line, beforeLine, linesOf, beforeField, fieldsOf, lineBytes, lineStart}
-use Rattle.lines.specs.Records.{letter, kindOf, kindIn, Field, number, dash, other, isDash, fieldOf, Record, recordFrom, recordOf, recordsOf}
+use Rattle.lines.specs.Records.{letterIn, Field, number, dash, other, isDash, fieldOf, Record, recordFrom, recordOf, recordsOf}
 use Rattle.lines.specs.Spelling.{spellField, spellFields, spellLine, spellSheet}
-use Rattle.lines.specs.declared.Kind.{Kind}
-use Rattle.lines.specs.declared.Kind.the-variants.{Process, SourceStream, Heat, WasteGas, Power, BoughtPrecursor, OwnGood, Unknown}
 
 -- ---- what can be spelt and read again
 
@@ -33,12 +31,12 @@ unfoldable pub allPlain : List Field → Bool
 allPlain [] = true
 allPlain (f ∷ fs) = plain f && allPlain fs
 
--- one of the seven kinds
-abbrev pub known : Kind → Bool
-known k = not (eqb (letter k) (letter Unknown))
+-- a byte above the comma, as every letter is
+abbrev pub isLetter : (byte : ℕ) → Bool
+isLetter byte = ltb COMMA byte
 
 abbrev pub readable : Record → Bool
-readable r = known (r .kind) && allPlain (r .said)
+readable r = isLetter (r .letter) && allPlain (r .said)
 
 unfoldable pub allReadable : List Record → Bool
 allReadable [] = true
@@ -74,41 +72,12 @@ spell-field bytes h = go (isNumber bytes) refl (isDash bytes) refl h
     go false p true q h = dash-spelt bytes q
     go false p false q h = absurd (never h)
 
--- ---- kinds and their letters
+-- ---- letters
 
-pub kind-letter : (k : Kind) → kindOf (letter k) ≡ k
-kind-letter Process = refl
-kind-letter SourceStream = refl
-kind-letter Heat = refl
-kind-letter WasteGas = refl
-kind-letter Power = refl
-kind-letter BoughtPrecursor = refl
-kind-letter OwnGood = refl
-kind-letter Unknown = refl
-
--- one test of `kindOf`: where it fails, the next kind is given
-letter-step : (byte : ℕ) (k next : Kind) → (known next ≡ true → letter next ≡ byte)
-    → known (cond (eqb byte (letter k)) k next) ≡ true → letter (cond (eqb byte (letter k)) k next) ≡ byte
-letter-step byte k next below h = go (eqb byte (letter k)) refl h
-  where
-    go : (t : Bool) → eqb byte (letter k) ≡ t → known (cond t k next) ≡ true → letter (cond t k next) ≡ byte
-    go true e h = sym (eqb-true byte (letter k) e)
-    go false e h = below h
-
-letter-kind : (byte : ℕ) → known (kindOf byte) ≡ true → letter (kindOf byte) ≡ byte
-letter-kind byte =
-    letter-step byte Process _
-    (letter-step byte SourceStream _
-    (letter-step byte Heat _
-    (letter-step byte WasteGas _
-    (letter-step byte Power _
-    (letter-step byte BoughtPrecursor _
-    (letter-step byte OwnGood Unknown (λ h. absurd (never h))))))))
-
--- the first field of a line of a known kind is the letter alone
-first-field : (first : List ℕ) → known (kindIn first) ≡ true → letter (kindIn first) ∷ [] ≡ first
+-- the first field of a line that has a letter is the letter alone
+first-field : (first : List ℕ) → isLetter (letterIn first) ≡ true → letterIn first ∷ [] ≡ first
 first-field [] h = absurd (never h)
-first-field (byte ∷ []) h = ap (λ (x : ℕ). x ∷ []) (letter-kind byte h)
+first-field (byte ∷ []) h = refl
 first-field (byte ∷ next ∷ bytes) h = absurd (never h)
 
 -- ---- what is spelt holds no comma and no LF but those that part fields and lines
@@ -147,25 +116,18 @@ module _ (byte : ℕ) (low : byte < 45) where
   field-lacks dash = simp (ne-eqb 45 byte (λ e. omega arith))
   field-lacks other = refl
 
-letter-lacks : (k : Kind) → (lacks COMMA (letter k ∷ []) ≡ true) × (lacks LF (letter k ∷ []) ≡ true)
+letter-lacks : (byte low : ℕ) → isLetter byte ≡ true → low ≤ COMMA → lacks low (byte ∷ []) ≡ true
 unfolding lacks
-letter-lacks Process = (refl, refl)
-letter-lacks SourceStream = (refl, refl)
-letter-lacks Heat = (refl, refl)
-letter-lacks WasteGas = (refl, refl)
-letter-lacks Power = (refl, refl)
-letter-lacks BoughtPrecursor = (refl, refl)
-letter-lacks OwnGood = (refl, refl)
-letter-lacks Unknown = (refl, refl)
+letter-lacks byte low h below = let above = ltb-true COMMA byte h in simp (ne-eqb byte low (λ e. omega arith))
 
 fields-lack-LF : (fs : List Field) → lacks LF (spellFields fs) ≡ true
 unfolding spellFields lacks
 fields-lack-LF [] = refl
 fields-lack-LF (f ∷ fs) = lacks-append LF (spellField f) (spellFields fs) (field-lacks LF (omega arith) f) (fields-lack-LF fs)
 
-line-lacks-LF : (r : Record) → lacks LF (spellLine r) ≡ true
+line-lacks-LF : (r : Record) → isLetter (r .letter) ≡ true → lacks LF (spellLine r) ≡ true
 unfolding spellLine
-line-lacks-LF r = lacks-append LF (letter (r .kind) ∷ []) (spellFields (r .said)) (letter-lacks (r .kind) .1) (fields-lack-LF (r .said))
+line-lacks-LF r h = lacks-append LF (r .letter ∷ []) (spellFields (r .said)) (letter-lacks (r .letter) LF h (omega arith)) (fields-lack-LF (r .said))
 
 -- ---- READ AFTER SPELT: a line
 
@@ -196,9 +158,9 @@ read-fields (f ∷ fs) h =
 pub read-line : (r : Record) (ended : Bool) → readable r ≡ true → recordOf (line (spellLine r) ended) ≡ r
 unfolding recordOf spellLine
 read-line r ended h =
-    ap recordFrom (fields-spelt (letter (r .kind) ∷ []) (r .said) (letter-lacks (r .kind) .0))
-    ∙ ap₂ (λ (k : Kind) (fs : List Field). record { kind = k; said = fs }) (kind-letter (r .kind))
-    (read-fields (r .said) (and-both (known (r .kind)) (allPlain (r .said)) h .1))
+    let q = and-both (isLetter (r .letter)) (allPlain (r .said)) h in
+    ap recordFrom (fields-spelt (r .letter ∷ []) (r .said) (letter-lacks (r .letter) COMMA (q .0) (omega arith)))
+    ∙ ap (λ (fs : List Field). record { letter = r .letter; said = fs }) (read-fields (r .said) (q .1))
 
 -- ---- SPELT AFTER READ: a line
 
@@ -250,7 +212,7 @@ spell-from : (fs : List (List ℕ)) → readable (recordFrom fs) ≡ true → sp
 unfolding spellLine
 spell-from [] h = absurd (never h)
 spell-from (first ∷ fs) h =
-    let q = and-both (known (kindIn first)) (allPlain (map fieldOf fs)) h in
+    let q = and-both (isLetter (letterIn first)) (allPlain (map fieldOf fs)) h in
     ap₂ (λ (x l : List ℕ). x ++ l) (first-field first (q .0)) (spell-fields fs (q .1))
 
 pub spell-line : (l : Line) → readable (recordOf l) ≡ true → spellLine (recordOf l) ≡ l .bytes
@@ -274,7 +236,7 @@ unfolding recordsOf spellSheet linesOf allReadable
 read-sheet [] h = refl
 read-sheet (r ∷ rs) h =
     let q = and-both (readable r) (allReadable rs) h in
-    ap (map recordOf) (lines-then (spellLine r) (spellSheet rs) (line-lacks-LF r))
+    ap (map recordOf) (lines-then (spellLine r) (spellSheet rs) (line-lacks-LF r (and-both (isLetter (r .letter)) (allPlain (r .said)) (q .0) .0)))
     ∙ ap₂ (λ (x : Record) (l : List Record). x ∷ l) (read-line r true (q .0)) (read-sheet rs (q .1))
 
 -- ---- SPELT AFTER READ: a sheet

@@ -1,4 +1,4 @@
--- Document 01, "The sheet": lines, fields and records, and a record's spelling.
+-- For the reader: Lines, Records, Spelling. For the code only: Words.
 pub mod Lines
 pub mod Records
 pub mod Words

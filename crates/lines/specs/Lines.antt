@@ -1,4 +1,4 @@
--- Document 01, "The sheet": bytes, lines and fields.
+-- For the reader. Document 01, "The sheet": bytes, lines and fields.
 use mathlib.Core.Bool.{Bool, true, false, cond}
 use mathlib.Core.List.{List, [], _∷_}
 use Prim.Native.Nat.{ℕ, zero, suc, _+_}

@@ -1,9 +1,9 @@
--- Document 01, "The sheet": a record spelt as a line, and records as a sheet.
+-- For the reader. Document 01, "The sheet": a record spelt as a line, and records as a sheet.
 use mathlib.Core.List.{List, [], _∷_, _++_}
 use Prim.Native.Nat.{ℕ}
 use Rattle.decimal.specs.Spelling.{spelling}
 use Rattle.lines.specs.Lines.{LF, COMMA}
-use Rattle.lines.specs.Records.{Field, number, dash, other, Record, letter}
+use Rattle.lines.specs.Records.{Field, number, dash, other, Record}
 
 abbrev pub spellField : Field → List ℕ
 spellField (number n) = spelling n
@@ -17,7 +17,7 @@ spellFields (f ∷ fs) = COMMA ∷ (spellField f ++ spellFields fs)
 
 -- a line without its LF
 unfoldable pub spellLine : Record → List ℕ
-spellLine r = letter (r .kind) ∷ spellFields (r .said)
+spellLine r = r .letter ∷ spellFields (r .said)
 
 unfoldable pub spellSheet : List Record → List ℕ
 spellSheet [] = []

@@ -1,4 +1,4 @@
--- What a line says as the code holds it. Laws join it to Records; nothing here adds to document 01's meaning.
+-- For the code only: what a line says as the code holds it. Laws join it to Records.
 use mathlib.Core.Path.{_≡_}
 use mathlib.Core.Bool.{cond}
 use mathlib.Core.List.{List, [], _∷_, map}
@@ -10,14 +10,20 @@ use Rattle.lines.specs.Lines.{LF, Line, line}
 use Rattle.lines.specs.Records.{Field, number, dash, other, recordOf}
 use Rattle.lines.specs.declared.LineRead.{LineRead}
 
-abbrev pub CAP : ℕ
-CAP = 1000000000001
+-- as many fields as the longest line has after its first
+abbrev pub WORDS : ℕ
+WORDS = 8
 
+-- above every range: stands for each number that is as great or greater
+abbrev pub CAP : ℕ
+CAP = 1000000000000000
+
+-- the marks of `-` and of anything else
 abbrev pub DASH : ℕ
-DASH = 1000000000002
+DASH = CAP + 1
 
 abbrev pub OTHER : ℕ
-OTHER = 1000000000003
+OTHER = CAP + 2
 
 -- a field in one word
 unfoldable pub word : Field → ℕ
@@ -27,7 +33,7 @@ word other = OTHER
 
 -- the words of the first eight fields, 0 where there are fewer
 unfoldable pub words : List Field → List ℕ
-words fields = sets (replicate 8 0) 0 (map word fields)
+words fields = sets (replicate WORDS 0) 0 (map word fields)
 
 -- how many bytes stand before the first LF: all of them where there is none
 unfoldable pub lineLength : List ℕ → ℕ
@@ -41,7 +47,7 @@ lineAt sheet start =
 
 -- what is read at a place of the sheet is the line that starts there
 pub record ReadAt (sheet : List ℕ) (start : ℕ) (l : LineRead) : Type 0 where
-  pub kind : l .kind ≡ recordOf (lineAt sheet start) .kind
+  pub letter : l .letter ≡ recordOf (lineAt sheet start) .letter
   pub count : l .count ≡ length (recordOf (lineAt sheet start) .said)
   pub words : l .words ≡ words (recordOf (lineAt sheet start) .said)
   pub end : l .end ≡ start + lineLength (drop start sheet)

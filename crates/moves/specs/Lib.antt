@@ -1,2 +1,2 @@
--- An entry by what it moves.
+-- For the code only: Moved.
 pub mod Moved

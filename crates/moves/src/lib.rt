@@ -1,15 +1,10 @@
 // Document 01, "Attribution": what a weighed line moves, and what of it enters the works, leaves it and stays uncredited.
 ghost use mathlib.Core.Path.{_≡_};
-ghost use mathlib.Core.Bool.{cond, _||_};
-ghost use Prim.Native.Nat.{_-_, _≤_, _<_};
-ghost use lib.Dec.{eqb};
+ghost use Prim.Native.Nat.{_-_, _≤_};
 ghost use lib.IntN.{natAbs};
 ghost use Rattle.goods.specs.Sums.{onlyAt};
-ghost use Rattle.goods.specs.Settling.{SIZE};
-ghost use Rattle.ledger.specs.Ledger.{Small};
-ghost use Rattle.ledger.specs.Raising.{raisedToZero, gramsAdded};
 ghost use Rattle.quantity.specs.Weights.{wasteGasCharge, wasteGasCredit};
-ghost use Rattle.moves.specs.Moved.{moved, bought};
+ghost use Rattle.moves.specs.Moved.{noGramsMoved, streamMoved, heatMoved, betweenProcesses, gasMoved, electricityMoved, boughtMoved};
 use ledger::Entry;
 use quantity::Grams;
 use quantity::Megajoules;
@@ -18,7 +13,6 @@ use quantity::SignedGrams;
 // An amount where the end is outside the works, else nothing.
 fn outside(end: usize, amount: Grams) -> Grams
     ensures { λ r. ⌜ r .0 ≡ onlyAt 0 end (amount .0) ⌝ }
-    ensures bounded { λ r. ⌜ r .0 ≤ amount .0 ⌝ }
 {
     if end == 0 {
         return amount;
@@ -29,8 +23,7 @@ fn outside(end: usize, amount: Grams) -> Grams
 // Charge minus credit between two processes, else nothing.
 fn between(from: usize, to: usize, charge: Grams, credit: Grams) -> Grams
     requires { ⌜ credit .0 ≤ charge .0 ⌝ }
-    ensures { λ r. ⌜ r .0 ≡ cond (eqb 0 from || eqb 0 to) 0 (charge .0 - credit .0) ⌝ }
-    ensures bounded { λ r. ⌜ r .0 ≤ charge .0 ⌝ }
+    ensures { λ r. ⌜ r .0 ≡ betweenProcesses from to (charge .0 - credit .0) ⌝ }
 {
     if from == 0 {
         return Grams(0);
@@ -43,8 +36,7 @@ fn between(from: usize, to: usize, charge: Grams, credit: Grams) -> Grams
 
 // A line that moves no grams.
 pub fn nothing() -> Entry
-    ensures { λ r. ⌜ r ≡ moved 0 0 0 0 0 0 0 0 0 ⌝ }
-    ensures small { λ r. ⌜ Small r ⌝ }
+    ensures { λ r. ⌜ r ≡ noGramsMoved ⌝ }
 {
     Entry {
         charged: 0,
@@ -52,22 +44,19 @@ pub fn nothing() -> Entry
         credited: 0,
         credit: Grams(0),
         user: 0,
-        power: Grams(0),
+        electricity: Grams(0),
         buyer: 0,
         direct: Grams(0),
         indirect: Grams(0),
         entering: Grams(0),
         leaving: Grams(0),
-        lost: Grams(0),
+        uncredited: Grams(0),
     }
 }
 
 // Heat: its receiver is charged, and its sender credited as much.
 pub fn heat_entry(from: usize, to: usize, weight: Grams) -> Entry
-    requires { ⌜ (from < SIZE) × (to < SIZE) ⌝ }
-    requires { ⌜ weight .0 ≤ 1000000000000000 ⌝ }
-    ensures { λ r. ⌜ r ≡ moved to (weight .0) from (weight .0) 0 0 (onlyAt 0 from (weight .0)) (onlyAt 0 to (weight .0)) 0 ⌝ }
-    ensures small { λ r. ⌜ Small r ⌝ }
+    ensures { λ r. ⌜ r ≡ heatMoved from to (weight .0) ⌝ }
 {
     let entering = outside(from, weight);
     let leaving = outside(to, weight);
@@ -83,16 +72,14 @@ pub fn heat_entry(from: usize, to: usize, weight: Grams) -> Entry
 
 // Waste gas: its receiver is charged, and its sender credited with 667 thousandths of the charge.
 pub fn gas_entry(from: usize, to: usize, energy: Megajoules) -> Entry
-    requires { ⌜ (from < SIZE) × (to < SIZE) ⌝ }
     requires { ⌜ (1 ≤ energy .0) × (energy .0 ≤ 1000000000000) ⌝ }
-    ensures { λ r. ⌜ r ≡ moved to (wasteGasCharge (energy .0)) from (wasteGasCredit (energy .0)) 0 0 (onlyAt 0 from (wasteGasCharge (energy .0))) (onlyAt 0 to (wasteGasCredit (energy .0))) (cond (eqb 0 from || eqb 0 to) 0 (wasteGasCharge (energy .0) - wasteGasCredit (energy .0))) ⌝ }
-    ensures small { λ r. ⌜ Small r ⌝ }
+    ensures { λ r. ⌜ r ≡ gasMoved from to (wasteGasCharge (energy .0)) (wasteGasCredit (energy .0)) ⌝ }
 {
     let charge = quantity::weighing::gas_charge(energy);
     let credit = quantity::weighing::gas_credit(energy);
     let entering = outside(from, charge);
     let leaving = outside(to, credit);
-    let lost = between(from, to, charge, credit);
+    let uncredited = between(from, to, charge, credit);
     let mut gas = nothing();
     gas.charged = to;
     gas.charge = charge;
@@ -100,35 +87,30 @@ pub fn gas_entry(from: usize, to: usize, energy: Megajoules) -> Entry
     gas.credit = credit;
     gas.entering = entering;
     gas.leaving = leaving;
-    gas.lost = lost;
+    gas.uncredited = uncredited;
     gas
 }
 
-// Power: its maker is credited, and it is its user's indirect attribution.
-pub fn power_entry(from: usize, to: usize, weight: Grams) -> Entry
-    requires { ⌜ (from < SIZE) × (to < SIZE) ⌝ }
-    requires { ⌜ weight .0 ≤ 1000000000000000 ⌝ }
-    ensures { λ r. ⌜ r ≡ moved 0 0 from (weight .0) to (weight .0) (onlyAt 0 from (weight .0)) (onlyAt 0 to (weight .0)) 0 ⌝ }
-    ensures small { λ r. ⌜ Small r ⌝ }
+// Electricity: its maker is credited, and it is its user's indirect attribution.
+pub fn electricity_entry(from: usize, to: usize, weight: Grams) -> Entry
+    ensures { λ r. ⌜ r ≡ electricityMoved from to (weight .0) ⌝ }
 {
     let entering = outside(from, weight);
     let leaving = outside(to, weight);
-    let mut power = nothing();
-    power.credited = from;
-    power.credit = weight;
-    power.user = to;
-    power.power = weight;
-    power.entering = entering;
-    power.leaving = leaving;
-    power
+    let mut electricity = nothing();
+    electricity.credited = from;
+    electricity.credit = weight;
+    electricity.user = to;
+    electricity.electricity = weight;
+    electricity.entering = entering;
+    electricity.leaving = leaving;
+    electricity
 }
 
 // A bought precursor: both figures enter the works.
 pub fn bought_entry(buyer: usize, direct: Grams, indirect: Grams) -> Entry
-    requires { ⌜ buyer < SIZE ⌝ }
     requires { ⌜ (direct .0 ≤ 1000000000000000) × (indirect .0 ≤ 1000000000000000) ⌝ }
-    ensures { λ r. ⌜ r ≡ bought buyer (direct .0) (indirect .0) ⌝ }
-    ensures small { λ r. ⌜ Small r ⌝ }
+    ensures { λ r. ⌜ r ≡ boughtMoved buyer (direct .0) (indirect .0) ⌝ }
 {
     let both = Grams(direct.0 + indirect.0);
     let mut bought = nothing();
@@ -141,10 +123,8 @@ pub fn bought_entry(buyer: usize, direct: Grams, indirect: Grams) -> Entry
 
 // A source stream: a process is charged with what is counted plus, and credited with what is counted minus.
 pub fn stream_entry(process: usize, grams: SignedGrams) -> Entry
-    requires { ⌜ process < SIZE ⌝ }
     requires { ⌜ natAbs (grams .0) ≤ 1000000000000000 ⌝ }
-    ensures { λ r. ⌜ r ≡ moved process (raisedToZero (grams .0)) process (gramsAdded (grams .0)) 0 0 (raisedToZero (grams .0)) (gramsAdded (grams .0)) 0 ⌝ }
-    ensures small { λ r. ⌜ Small r ⌝ }
+    ensures { λ r. ⌜ r ≡ streamMoved process (grams .0) ⌝ }
 {
     let parts = ledger::raise(grams);
     let plus = parts.direct;

@@ -1,2 +1,2 @@
--- A line's place as the code finds it.
+-- For the reader: LinePlace.
 pub mod LinePlace

@@ -1,4 +1,4 @@
--- A line's place as the code finds it. Laws join it to Lines; nothing here adds to document 01's meaning.
+-- For the reader. Document 01, "Sheets sent back": where the offending line stands in the lent sheet, and how long it is.
 use mathlib.Core.Path.{_≡_}
 use mathlib.Core.List.{List}
 use Prim.Native.Nat.{ℕ, _+_, min, _≤_}

@@ -8,5 +8,6 @@ use Rattle.quantity.specs.Weights.{weight, wasteGasCharge, wasteGasCredi
 use Rattle.quantity.specs.Cases.{examples}
 
 pub examples-hold : map (λ e. e .found) examples ≡ map (λ e. e .expected) examples
-unfolding examples round fossilGrams combustionGrams processGrams carbonGrams streamGrams fuels carbonates fuelOf carbonateOf weight wasteGasCharge wasteGasCredit
+unfolding examples round fossilGrams combustionGrams processGrams carbonGrams streamGrams
+    fuels carbonates fuelOf carbonateOf weight wasteGasCharge wasteGasCredit
 examples-hold = refl

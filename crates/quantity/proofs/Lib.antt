@@ -4,3 +4,4 @@ pub mod Rounding
 pub mod Weights
 pub mod Methods
 pub mod Tables
+pub mod Small

@@ -1,4 +1,4 @@
--- Document 01's limits, "Source streams" and the weights of "Attribution", in the paper's order.
+-- For the reader, in document 01's order: Limits, Rounding, Streams, Standard, Weights. For the code only: Ranges. Examples: Cases.
 pub mod Limits
 pub mod Rounding
 pub mod Streams

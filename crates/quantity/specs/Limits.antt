@@ -1,5 +1,6 @@
--- Document 01's limits of a sheet. Every definition takes them as a parameter; their values stand here alone.
-use Prim.Native.Nat.{ℕ}
+-- For the reader. Document 01, "The sheet" and "Sheets sent back": its limits. Definitions take those of a sheet as a parameter, and the values
+-- stand here alone.
+use Prim.Native.Nat.{ℕ, _^_}
 
 pub record Limits : Type 0 where
   -- processes are numbered 1 to this
@@ -11,3 +12,7 @@ pub record Limits : Type 0 where
 
 abbrev pub limits : Limits
 limits = record { processes = 16; bytes = 65536; lines = 4096 }
+
+-- row 15: whole-gram figures of the report stay below it
+abbrev pub wholeGrams : ℕ
+wholeGrams = 2 ^ 63

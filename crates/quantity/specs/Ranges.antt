@@ -1,4 +1,4 @@
--- What the functions of this crate ask of their arguments: the ranges of document 01's fields.
+-- For the code only: what the functions of this crate ask of their arguments, the ranges of document 01's fields.
 use mathlib.Core.Path.{_≡_}
 use Prim.Native.Nat.{ℕ, _≤_}
 

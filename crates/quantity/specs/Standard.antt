@@ -1,4 +1,4 @@
--- Document 01, "Source streams": the standard value of each code.
+-- For the reader. Document 01, "Source streams": the standard value of each code.
 use mathlib.Core.Bool.{cond}
 use mathlib.Core.List.{List, [], _∷_}
 use Prim.Native.Nat.{ℕ, zero, suc}

@@ -1,4 +1,4 @@
--- Document 01, "Source streams": the four methods. Each step is rounded.
+-- For the reader. Document 01, "Source streams": the four methods. Each step is rounded.
 use mathlib.Core.Bool.{cond}
 use Prim.Native.Nat.{ℕ, _*_, _-_}
 use lib.Dec.{eqb}

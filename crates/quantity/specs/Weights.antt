@@ -1,4 +1,4 @@
--- Document 01, "Attribution": weights in grams.
+-- For the reader. Document 01, "Attribution": weights in grams.
 use Prim.Native.Nat.{ℕ, _*_}
 use Rattle.quantity.specs.Rounding.{round}
 

@@ -25,7 +25,7 @@ pub fn heat_weight(energy: Megajoules, factor: u64) -> Grams
 }
 
 // An E line, its factor in mg/kWh.
-pub fn power_weight(kilowatt_hours: u64, factor: u64) -> Grams
+pub fn electricity_weight(kilowatt_hours: u64, factor: u64) -> Grams
     requires { ⌜ («kilowatt_hours» ≤ 100000000000) × (factor ≤ 2000000) ⌝ }
     ensures { λ r. ⌜ r .0 ≡ weight «kilowatt_hours» factor ⌝ }
     ensures bounded { λ r. ⌜ r .0 ≤ 1000000000000000 ⌝ }

@@ -2,31 +2,33 @@
 use mathlib.Core.Path.{_≡_, refl, sym, ap, ap₂, _∙_}
 use mathlib.Core.Bool.{false}
 use mathlib.Core.List.{List, [], _∷_, _++_}
-use Prim.Native.Nat.{ℕ, _^_, _≤_, _<_}
+use Prim.Native.Nat.{ℕ, _-_, _≤_, _<_}
 use native.Mathlib.Omega.{arith}
 use borrow.Author.Tests.{lt-ltb, le-ltb, eq-eqb, ne-eqb, lt-leb}
-use lib.IntN.{ℤ, pos, negsuc, natAbs, _+ℤ_}
+use lib.IntN.{ℤ, pos, negsuc, negℤ, natAbs, _+ℤ_}
 use lib.Signed.{leZ}
 use lib.ListN.{length}
 use Rattle.lines.specs.Lines.{linesOf}
 use Rattle.lines.specs.Records.{recordsOf}
-use Rattle.quantity.specs.Limits.{limits}
+use Rattle.quantity.specs.Limits.{limits, wholeGrams}
 use Rattle.sheet.specs.Verdict.{Check, check, Verdict, accepted, refused, firstOf, linesChecks, sheetChecks, numberOf, lineOf}
-use Rattle.judge.specs.Code.{refusalNumber}
-use Rattle.judge.specs.declared.refusals.Refusal.{Refusal}
+use Rattle.checks.specs.Numbers.{refusalNumber}
+use Rattle.checks.specs.declared.refusals.Refusal.{Refusal}
 use Rattle.sheet.proofs.First.{accepted-passes}
-use Rattle.sheet.proofs.Passed.{lines-fine}
+use Rattle.sheet.proofs.Passed.{lines-passed}
+use Rattle.ledger.specs.Columns.{BEFORE_ENTRY}
 use Rattle.closing.specs.Closing.{Closed, anyLarge}
 use Rattle.closing.specs.declared.Closing.{Closing}
-use Rattle.goods.specs.Settling.{figures}
+use Rattle.goods.specs.ByProcess.{figures, Column}
 use Rattle.attribution.specs.Reckoning.{reckoning}
 use Rattle.attribution.specs.Verdict.{figureTooLarge, reckonerChecks}
-use Rattle.reckoner.specs.Gathered.{ReadOf}
-use Rattle.reckoner.specs.Reckoned.{FiguresOf, Reckoned, refusedBy, acceptedAs, largeTotals, large}
-use Rattle.reckoner.specs.declared.reading.Read.{Read}
+use Rattle.reading.specs.Gathered.{ReadOf}
+use Rattle.reckoner.specs.Reckoned.{FiguresOf, Reckoned, refusedBy}
+use Rattle.reckoner.specs.Closed.{acceptedAs, largeTotals, large}
+use Rattle.reading.specs.declared.Read.{Read}
 use Rattle.attribution.proofs.Valid.{Accepted, sheet-accepted}
 use Rattle.attribution.proofs.Works.{left-is-entered-raised-uncredited}
-use Rattle.reckoner.proofs.AllLines.{first-rest, first-here}
+use Rattle.sheet.proofs.First.{first-rest, first-here, numbered}
 use Rattle.reckoner.proofs.Fits.{none-large, RowBelow, row-below, left-total, no-figure-too-large}
 use Rattle.reckoner.proofs.Figured.{figures-is}
 
@@ -44,14 +46,10 @@ module _ (sheet : List ℕ) where
   unfolding reckonerChecks sheetChecks firstOf
   none-at-all h e = rw (le-ltb (limits .bytes) (length sheet) h, eq-eqb (length sheet) 0 e)
 
-  by-lines : length sheet ≤ limits .bytes → (length sheet ≡ 0 → ⊥) → firstOf (reckonerChecks limits sheet) ≡ firstOf (linesChecks limits [] (linesOf sheet) ++ last)
+  by-lines : length sheet ≤ limits .bytes → (length sheet ≡ 0 → ⊥)
+      → firstOf (reckonerChecks limits sheet) ≡ firstOf (linesChecks limits [] (linesOf sheet) ++ last)
   unfolding reckonerChecks sheetChecks firstOf
   by-lines h e = rw (le-ltb (limits .bytes) (length sheet) h, ne-eqb (length sheet) 0 e)
-
-  -- a verdict of a number is refused by it
-  pub numbered : (v : Verdict) → (numberOf v ≡ 0 → ⊥) → v ≡ refused (numberOf v) (lineOf v)
-  numbered accepted h = absurd (h refl)
-  numbered (refused n k) h = refl
 
   -- ---- an answer that refuses
 
@@ -71,11 +69,6 @@ module _ (sheet : List ℕ) where
   pub refused-empty : (r : Refusal) → refusalNumber r ≡ 14 → length sheet ≤ limits .bytes → length sheet ≡ 0 → Reckoned sheet (refusedBy r 0)
   refused-empty r e h z = refused-answer r 0 (none-at-all h z ∙ ap (λ (n : ℕ). refused n 0) (sym e)) (λ (z : refusalNumber r ≡ 0). omega arith)
 
-  pub refused-first : (r : Refusal) → length sheet ≤ limits .bytes → (length sheet ≡ 0 → ⊥) → (refusalNumber r ≡ 0 → ⊥)
-      → firstOf (linesChecks limits [] (linesOf sheet)) ≡ refused (refusalNumber r) 1 → Reckoned sheet (refusedBy r 1)
-  refused-first r short some h v =
-      refused-answer r 1 (by-lines short some ∙ first-here (linesChecks limits [] (linesOf sheet)) last (refusalNumber r) 1 v) h
-
   module _ (short : length sheet ≤ limits .bytes) (some : length sheet ≡ 0 → ⊥) (kilos : List ℕ) (read : Read) (of : ReadOf sheet kilos read) where
     pub refused-line : (refusalNumber (read .refusal) ≡ 0 → ⊥) → Reckoned sheet (refusedBy (read .refusal) (read .line))
     refused-line h =
@@ -91,7 +84,7 @@ module _ (sheet : List ℕ) where
       ok = sheet-accepted limits sheet record {
         short = short;
         some = some;
-        lines = lines-fine limits [] (linesOf sheet) (accepted-passes _ (of .passed zero));
+        lines = lines-passed limits [] (linesOf sheet) (accepted-passes _ (of .passed zero));
       }
 
       all-pass : firstOf (reckonerChecks limits sheet) ≡ accepted
@@ -114,12 +107,15 @@ module _ (sheet : List ℕ) where
         }
 
         -- THE THIRD PROPERTY of the returned totals
-        pub accepted-sum : pos (c .left .0) ≡ read .works .ledger .totals .entered .0 +ℤ pos (c .«total_raised» .0) +ℤ pos (read .works .ledger .totals .uncredited .0)
-        accepted-sum = rw (figured .left-is, figured .entered-is, figured .raised-is, figured .uncredited-is) (left-is-entered-raised-uncredited (recordsOf sheet) ok)
+        pub accepted-sum : pos (c .left .0)
+            ≡ read .works .ledger .totals .entered .0 +ℤ pos (c .«total_raised» .0) +ℤ pos (read .works .ledger .totals .uncredited .0)
+        accepted-sum =
+            rw (figured .left-is, figured .entered-is, figured .raised-is, figured .uncredited-is)
+            (left-is-entered-raised-uncredited (recordsOf sheet) ok)
 
         -- row 15 does not apply
-        below : {figure : ℕ → ℕ} {a : List ℕ} → Rattle.reckoner.specs.Reckoned.Column (read .works .count) figure a
-            → ((k : ℕ) → 1 ≤ k → k ≤ read .works .count → figure k < 2 ^ 63) → anyLarge (read .works .count) (figures a) ≡ false
+        below : {figure : ℕ → ℕ} {a : List ℕ} → Column (read .works .count) figure a
+            → ((k : ℕ) → 1 ≤ k → k ≤ read .works .count → figure k < wholeGrams) → anyLarge (read .works .count) (figures a) ≡ false
         below {a = a} col h = none-large (read .works .count) (figures a) (λ k l m. let e = col .at k l m in let f = h k l m in omega arith)
 
         pub not-large : large (acceptedAs (read .works) c) ≡ false
@@ -137,16 +133,16 @@ module _ (sheet : List ℕ) where
             row : (k : ℕ) → 1 ≤ k → k ≤ read .works .count → RowBelow (recordsOf sheet) ok (read .works) kilos (of .gathered zero) k
             row k l m = row-below (recordsOf sheet) ok (read .works) kilos (of .gathered zero) k l (omega (arith, of .gathered zero .count))
 
-            least : (z : ℤ) → natAbs z ≤ 9200000000000000000 → leZ z (negsuc 9223372036854775807) ≡ false
+            least : (z : ℤ) → natAbs z ≤ BEFORE_ENTRY → leZ z (negℤ (pos wholeGrams)) ≡ false
             least (pos n) h = refl
-            least (negsuc n) h = lt-leb 9223372036854775807 n (omega arith)
+            least (negsuc n) h = lt-leb (wholeGrams - 1) n (omega arith)
 
-            totals : largeTotals (c .left .0) (read .works .ledger .totals .entered .0) (c .«total_raised» .0) (read .works .ledger .totals .uncredited .0) ≡ false
+            totals : let t = read .works .ledger .totals in largeTotals (c .left .0) (t .entered .0) (c .«total_raised» .0) (t .uncredited .0) ≡ false
             totals =
                 let g = of .gathered zero in
                 rw (
-                  lt-leb (2 ^ 63) (c .left .0) (omega (arith, figured .left-is, left-total (recordsOf sheet) ok (read .works) kilos g)),
+                  lt-leb wholeGrams (c .left .0) (omega (arith, figured .left-is, left-total (recordsOf sheet) ok (read .works) kilos g)),
                   least (read .works .ledger .totals .entered .0) (g .room .entered),
-                  lt-leb (2 ^ 63) (c .«total_raised» .0) (omega (arith, figured .raised-is, g .raised)),
-                  lt-leb (2 ^ 63) (read .works .ledger .totals .uncredited .0) (omega (arith, g .room .uncredited)),
+                  lt-leb wholeGrams (c .«total_raised» .0) (omega (arith, figured .raised-is, g .raised)),
+                  lt-leb wholeGrams (read .works .ledger .totals .uncredited .0) (omega (arith, g .room .uncredited)),
                 )

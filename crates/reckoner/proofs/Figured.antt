@@ -7,23 +7,26 @@ use lib.ListN.{length}
 use Rattle.lines.specs.Records.{Record}
 use Rattle.goods.specs.Sums.{sumTo}
 use Rattle.goods.specs.Goods.{poolOf, leftOf}
-use Rattle.goods.specs.Settling.{SIZE, figures, pairs}
+use Rattle.goods.specs.ByProcess.{SIZE, figures, Column}
+use Rattle.goods.specs.Settling.{pairs}
 use Rattle.goods.proofs.Sums.{sum-cong}
 use Rattle.goods.proofs.Same.{pool-cong, left-cong}
 use Rattle.ledger.specs.Raising.{raisedToZero}
-use Rattle.closing.specs.Closing.{Holds, Closed}
+use Rattle.closing.specs.Closing.{Closed}
 use Rattle.closing.specs.declared.Closing.{Closing}
-use Rattle.attribution.specs.Attribution.{direct, indirect}
+use Rattle.attribution.specs.Attribution.{direct}
 use Rattle.attribution.specs.Reckoning.{processCount, output, kilosBetween, directPool, indirectPool, directLeft, indirectLeft, totalLeft}
-use Rattle.reckoner.specs.Gathered.{Gathered}
-use Rattle.reckoner.specs.Reckoned.{Column, FiguresOf, acceptedAs}
+use Rattle.reading.specs.Gathered.{Gathered}
+use Rattle.reckoner.specs.Reckoned.{FiguresOf}
+use Rattle.reckoner.specs.Closed.{acceptedAs}
 use Rattle.works.specs.declared.Works.{Works}
 use Rattle.attribution.proofs.Valid.{Accepted}
 use Rattle.reckoner.proofs.Ready.{own-direct-is, own-indirect-is, raised-is, pairs-is, raised-sum}
 
 module _ (rs : List Record) (w : Works) (kilos : List ℕ) (g : Gathered rs w kilos) (ok : Accepted rs) (c : Closing)
     (closed : Closed (w .ledger) (w .outputs .0) kilos (w .count) c) where
-  column : {figure other : ℕ → ℕ} {a : List ℕ} → Holds (w .count) figure a → ((k : ℕ) → 1 ≤ k → k ≤ w .count → figure k ≡ other k) → Column (w .count) other a
+  column : {figure other : ℕ → ℕ} {a : List ℕ} → Column (w .count) figure a → ((k : ℕ) → 1 ≤ k → k ≤ w .count → figure k ≡ other k)
+      → Column (w .count) other a
   column h same = record { size = h .size; at = λ k l m. h .at k l m ∙ same k l m }
 
   -- pools and lefts over the code's arrays are those over document 01's figures

@@ -2,22 +2,25 @@
 use mathlib.Core.Path.{_≡_, refl, ap}
 use mathlib.Core.Bool.{false}
 use mathlib.Core.List.{List, [], _∷_, _++_}
-use Prim.Native.Nat.{ℕ, zero, suc, _+_, _^_, _≤_, _<_}
+use Prim.Native.Nat.{ℕ, zero, suc, _+_, _≤_, _<_}
 use native.Mathlib.Nat.{le-refl}
 use native.Mathlib.Omega.{arith}
 use borrow.Author.Tests.{lt-leb}
 use lib.IntN.{natAbs}
+use Rattle.quantity.specs.Limits.{wholeGrams}
 use Rattle.lines.specs.Records.{Record}
-use Rattle.sheet.proofs.First.{All}
+use Rattle.sheet.specs.Verdict.{All}
 use Rattle.goods.specs.Sums.{sumTo}
 use Rattle.goods.specs.Goods.{poolOf, leftOf}
 use Rattle.goods.proofs.Sums.{sum-mono, sum-suc}
 use Rattle.goods.proofs.Pools.{pool-le, left-is, left-sum}
+use Rattle.ledger.specs.Columns.{BEFORE_ENTRY}
 use Rattle.closing.specs.Closing.{anyLarge}
 use Rattle.attribution.specs.Attribution.{direct, indirect, raised, boughtDirect, boughtIndirect}
-use Rattle.attribution.specs.Reckoning.{Row, processCount, output, kilosBetween, directPool, indirectPool, directLeft, indirectLeft, totalLeft, entered, totalRaised, uncredited, rowOf, rowsTo, reckoning}
+use Rattle.attribution.specs.Reckoning.{Row, processCount, output, kilosBetween, directPool, indirectPool, directLeft, indirectLeft}
+use Rattle.attribution.specs.Reckoning.{totalLeft, entered, totalRaised, uncredited, rowOf, rowsTo, reckoning}
 use Rattle.attribution.specs.Verdict.{rowGrams, rowsGrams, anyFrom, figureTooLarge}
-use Rattle.reckoner.specs.Gathered.{Gathered}
+use Rattle.reading.specs.Gathered.{Gathered}
 use Rattle.works.specs.declared.Works.{Works}
 use Rattle.attribution.proofs.Entries.{forward}
 use Rattle.attribution.proofs.Valid.{Accepted}
@@ -25,22 +28,22 @@ use Rattle.attribution.proofs.Valid.{Accepted}
 -- ---- figures below a limit
 
 abbrev Below : ℕ → Type 0
-Below g = g < 2 ^ 63
+Below g = g < wholeGrams
 
-none-from : (gs : List ℕ) → All Below gs → anyFrom (2 ^ 63) gs ≡ false
+none-from : (gs : List ℕ) → All Below gs → anyFrom wholeGrams gs ≡ false
 unfolding anyFrom
 none-from [] h = refl
-none-from (g ∷ gs) h = rw (lt-leb (2 ^ 63) g (h .0)) (none-from gs (h .1))
+none-from (g ∷ gs) h = rw (lt-leb wholeGrams g (h .0)) (none-from gs (h .1))
 
 all-join : (a b : List ℕ) → All Below a → All Below b → All Below (a ++ b)
 all-join [] b p q = q
 all-join (g ∷ a) b p q = (p .0, all-join a b (p .1) q)
 
-pub none-large : (count : ℕ) (f : ℕ → ℕ) → ((k : ℕ) → 1 ≤ k → k ≤ count → f k < 2 ^ 63) → anyLarge count f ≡ false
+pub none-large : (count : ℕ) (f : ℕ → ℕ) → ((k : ℕ) → 1 ≤ k → k ≤ count → f k < wholeGrams) → anyLarge count f ≡ false
 unfolding anyLarge
 none-large zero f h = refl
 none-large (suc n) f h =
-    rw (none-large n f (λ k l m. h k l (omega arith)), lt-leb (2 ^ 63) (f (suc n)) (h (suc n) (omega arith) (le-refl (suc n))))
+    rw (none-large n f (λ k l m. h k l (omega arith)), lt-leb wholeGrams (f (suc n)) (h (suc n) (omega arith) (le-refl (suc n))))
 
 sum-at : (n : ℕ) (f : ℕ → ℕ) (k : ℕ) → 1 ≤ k → k ≤ n → f k ≤ sumTo n f
 sum-at n f zero l h = absurd (omega arith)
@@ -50,7 +53,7 @@ module _ (rs : List Record) (ok : Accepted rs) where
   abbrev n : ℕ
   n = processCount rs
 
-  pool-below : (own : ℕ → ℕ) → sumTo n own < 2 ^ 63 → (k : ℕ) → 1 ≤ k → k ≤ n → poolOf n (output rs) (kilosBetween rs) own k < 2 ^ 63
+  pool-below : (own : ℕ → ℕ) → sumTo n own < wholeGrams → (k : ℕ) → 1 ≤ k → k ≤ n → poolOf n (output rs) (kilosBetween rs) own k < wholeGrams
   pool-below own small zero l h = absurd (omega arith)
   pool-below own small (suc k) l h =
       omega (
@@ -59,19 +62,19 @@ module _ (rs : List Record) (ok : Accepted rs) where
         sum-mono (suc k) n own h,
       )
 
-  left-below : (own : ℕ → ℕ) → sumTo n own < 2 ^ 63 → (k : ℕ) → 1 ≤ k → k ≤ n → leftOf n (output rs) (kilosBetween rs) own k < 2 ^ 63
+  left-below : (own : ℕ → ℕ) → sumTo n own < wholeGrams → (k : ℕ) → 1 ≤ k → k ≤ n → leftOf n (output rs) (kilosBetween rs) own k < wholeGrams
   left-below own small k l h = omega (arith, left-is n (output rs) (kilosBetween rs) own k, pool-below own small k l h)
 
   module _ (w : Works) (kilos : List ℕ) (g : Gathered rs w kilos) where
     -- the figures of one process
     pub record RowBelow (k : ℕ) : Type 0 where
-      pub directs : direct rs k < 2 ^ 63
-      pub indirects : indirect rs k < 2 ^ 63
-      pub raiseds : raised rs k < 2 ^ 63
-      pub direct-pools : directPool rs k < 2 ^ 63
-      pub indirect-pools : indirectPool rs k < 2 ^ 63
-      pub direct-lefts : directLeft rs k < 2 ^ 63
-      pub indirect-lefts : indirectLeft rs k < 2 ^ 63
+      pub directs : direct rs k < wholeGrams
+      pub indirects : indirect rs k < wholeGrams
+      pub raiseds : raised rs k < wholeGrams
+      pub direct-pools : directPool rs k < wholeGrams
+      pub indirect-pools : indirectPool rs k < wholeGrams
+      pub direct-lefts : directLeft rs k < wholeGrams
+      pub indirect-lefts : indirectLeft rs k < wholeGrams
 
     pub row-below : (k : ℕ) → 1 ≤ k → k ≤ n → RowBelow k
     unfolding directPool indirectPool directLeft indirectLeft totalRaised
@@ -86,7 +89,7 @@ module _ (rs : List Record) (ok : Accepted rs) where
     }
 
     -- the totals
-    pub left-total : totalLeft rs < 2 ^ 63
+    pub left-total : totalLeft rs < wholeGrams
     unfolding totalLeft directLeft indirectLeft
     left-total =
         omega (
@@ -96,10 +99,10 @@ module _ (rs : List Record) (ok : Accepted rs) where
           g .into,
         )
 
-    pub entered-total : natAbs (entered rs) ≤ 9200000000000000000
+    pub entered-total : natAbs (entered rs) ≤ BEFORE_ENTRY
     entered-total = rw (g .entered-is) at (g .room .entered)
 
-    pub uncredited-total : uncredited rs < 2 ^ 63
+    pub uncredited-total : uncredited rs < wholeGrams
     uncredited-total = omega (arith, g .uncredited-is, g .room .uncredited)
 
     -- ROW 15 DOES NOT APPLY

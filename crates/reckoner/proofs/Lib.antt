@@ -1,10 +1,4 @@
 -- Laws that the crates above cite.
-pub mod HeldLedger
-pub mod HeldGoods
-pub mod AnyOrder
-pub mod Standing
-pub mod AllLines
-pub mod Gathering
 pub mod Ready
 pub mod Fits
 pub mod Figured

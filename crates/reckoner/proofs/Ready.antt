@@ -1,17 +1,19 @@
 -- An accepted sheet is ready to be closed, no figure of it reaches 2^63, and the closing's figures are document 01's. Assumes nothing.
 use mathlib.Core.Path.{_≡_, ap, ap₂, _∙_}
 use mathlib.Core.List.{List}
-use Prim.Native.Nat.{ℕ, _+_, _^_, _≤_, _<_}
+use Prim.Native.Nat.{ℕ, _+_, _≤_, _<_}
 use native.Mathlib.Omega.{arith}
+use Rattle.quantity.specs.Limits.{wholeGrams}
 use Rattle.lines.specs.Records.{Record}
 use Rattle.goods.specs.Sums.{sumTo}
-use Rattle.goods.specs.Settling.{SIZE, figures, pairs, Settleable}
+use Rattle.goods.specs.ByProcess.{SIZE, figures}
+use Rattle.goods.specs.Settling.{pairs, Settleable}
 use Rattle.goods.proofs.Sums.{sum-ext, sum-cong}
 use Rattle.ledger.specs.Raising.{raisedToZero, gramsAdded}
-use Rattle.closing.specs.Closing.{Ready, ownDirect, ownIndirect, raisedOf}
+use Rattle.closing.specs.Closing.{Ready, ownDirect, ownIndirect, raisedHeld}
 use Rattle.attribution.specs.Attribution.{direct, indirect, raised, boughtDirect, boughtIndirect}
 use Rattle.attribution.specs.Reckoning.{processCount, kilosBetween, totalRaised}
-use Rattle.reckoner.specs.Gathered.{Gathered}
+use Rattle.reading.specs.Gathered.{Gathered}
 use Rattle.works.specs.declared.Works.{Works}
 use Rattle.attribution.proofs.Entries.{forward}
 use Rattle.attribution.proofs.Valid.{Accepted}
@@ -28,7 +30,7 @@ module _ (rs : List Record) (w : Works) (kilos : List ℕ) (g : Gathered rs w ki
   pub own-indirect-is : (k : ℕ) → ownIndirect (w .ledger) k ≡ indirect rs k + boughtIndirect rs k
   own-indirect-is k = ap₂ (λ (x y : ℕ). x + y) (g .indirect-at k) (g .bought-indirect-at k)
 
-  pub raised-is : (k : ℕ) → raisedOf (w .ledger) k ≡ raised rs k
+  pub raised-is : (k : ℕ) → raisedHeld (w .ledger) k ≡ raised rs k
   unfolding raised
   raised-is k = ap gramsAdded (g .balance-at k)
 
@@ -38,7 +40,7 @@ module _ (rs : List Record) (w : Works) (kilos : List ℕ) (g : Gathered rs w ki
   pub pairs-is : (i j : ℕ) → j ≤ w .count → pairs kilos i j ≡ kilosBetween rs i j
   pairs-is i j h = g .kilos-at i j (count-in j h)
 
-  settleable : (own : ℕ → ℕ) → sumTo (w .count) own < 2 ^ 63 → Settleable (w .count) (figures (w .outputs .0)) (pairs kilos) own
+  settleable : (own : ℕ → ℕ) → sumTo (w .count) own < wholeGrams → Settleable (w .count) (figures (w .outputs .0)) (pairs kilos) own
   settleable own small = record {
     some = λ i l h. rw (g .output-at i) (g .made i l h);
     small = λ i l h. omega (arith, g .output-at i, g .outputs-small i);
@@ -59,7 +61,7 @@ module _ (rs : List Record) (w : Works) (kilos : List ℕ) (g : Gathered rs w ki
   own-indirect-sum : sumTo (w .count) (ownIndirect (w .ledger)) ≡ sumTo n (λ k. indirect rs k + boughtIndirect rs k)
   own-indirect-sum = rw (g .count) (sum-ext n _ _ own-indirect-is)
 
-  pub raised-sum : sumTo (w .count) (raisedOf (w .ledger)) ≡ totalRaised rs
+  pub raised-sum : sumTo (w .count) (raisedHeld (w .ledger)) ≡ totalRaised rs
   unfolding totalRaised
   raised-sum = rw (g .count) (sum-ext n _ _ raised-is)
 

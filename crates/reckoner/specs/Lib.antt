@@ -1,3 +1,3 @@
--- What the code of the reckoner promises, in document 01's terms.
-pub mod Gathered
+-- For the reader: Reckoned. For the code only: Closed.
 pub mod Reckoned
+pub mod Closed

@@ -1,12 +1,13 @@
 // Document 01, "Attribution", "Goods and precursors" and the figures of "The report": a sheet's bytes to its reckoning.
-pub mod reading; // a sheet read from the top
-
 ghost use mathlib.Core.Path.{_≡_};
 ghost use Prim.Native.Nat.{_<_};
 ghost use lib.IntN.{pos, _+ℤ_};
-ghost use Rattle.goods.specs.Settling.{SIZE};
+ghost use Rattle.goods.specs.ByProcess.{SIZE};
 ghost use Rattle.closing.specs.Closing.{Ready};
-ghost use Rattle.reckoner.specs.Reckoned.{Reckoned, refusedBy, largeRows, largeTotals, large, ClosedAs};
+ghost use Rattle.reckoner.specs.Reckoned.{Reckoned, refusedBy};
+ghost use Rattle.reckoner.specs.Closed.{largeRows, largeTotals, large, ClosedAs};
+use checks::refusals::Refusal;
+use checks::refusals::refusal_number;
 use closing::Closing;
 use closing::close;
 use closing::too_large;
@@ -15,12 +16,10 @@ use goods::KilosByPair;
 use goods::KilosByProcess;
 use goods::PAIRS;
 use goods::SIZE;
-use judge::refusals::Refusal;
-use judge::refusals::refusal_number;
 use quantity::Grams;
 use quantity::SignedGrams;
 use quantity::limits::BYTES;
-use reading::first_refusal;
+use quantity::limits::WHOLE_GRAMS;
 use reading::read_lines;
 use works::Works;
 
@@ -35,10 +34,8 @@ pub struct Reckoning {
     pub uncredited: Grams,
 }
 
-// Row 15: whole-gram figures stay below 2^63, and so the least i64 is too large.
-const WHOLE_GRAMS: u64 = 9223372036854775808;
-
-const LEAST: i64 = -9223372036854775808;
+// Row 15: as whole-gram figures stay below 2^63, the least i64 is too large.
+const LEAST: i64 = -((WHOLE_GRAMS - 1) as i64) - 1;
 
 // A refused sheet has no figures.
 fn refused_by(refusal: Refusal, line: usize) -> Reckoning
@@ -136,10 +133,6 @@ pub fn reckon(s: &[u8]) -> Reckoning
     }
     if s.len() == 0 {
         return refused_by(Refusal::EmptySheet, 0);
-    }
-    let first = first_refusal(s);
-    if refusal_number(first) != 0 {
-        return refused_by(first, 1);
     }
     let mut kilos: KilosByPair = [0; PAIRS];
     let read = read_lines(s, &mut kilos);

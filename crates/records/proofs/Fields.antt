@@ -10,22 +10,23 @@ use native.Mathlib.Numerals.{add-one}
 use native.Mathlib.Omega.{arith}
 use borrow.Author.Tests.{eq-eqb, ne-eqb, eqb-true, lt-ltb, le-ltb, ltb-true, not-true}
 use lib.Dec.{eqb, ltb}
-use lib.ListN.{length, take, drop, set, getD, replicate, length-take, length-drop, length-set, length-map}
+use lib.ListN.{length, take, drop, set, getD, replicate, length-take, length-drop, length-set, length-map, List·getD-eq-default}
 use lib.Seq.{sets, set-out, drop-cons, drop-drop, getD-drop}
 use Rattle.decimal.proofs.Bools.{and-both, never, ltb-suc}
 use Rattle.lines.specs.Lines.{LF, COMMA, beforeField, fieldsOf}
-use Rattle.lines.specs.Records.{kindOf, kindIn, fieldOf, recordOf}
-use Rattle.lines.specs.Words.{word, words, lineLength, lineAt, ReadAt}
-use Rattle.fields.specs.Scan.{fieldLength, fieldAt, wordOf, isShort, FieldReadAt, FieldBounds, EndsInLF, ShortAt}
+use Rattle.lines.specs.Records.{letterIn, fieldOf, recordOf}
+use Rattle.lines.specs.Words.{WORDS, word, words, lineLength, lineAt, ReadAt}
+use Rattle.fields.specs.Scan.{fieldLength, fieldAt, wordOf, FieldReadAt, FieldBounds, EndsInLF, shortAt}
 use Rattle.fields.proofs.Scanning.{field-one, not-last, word-said}
-use Rattle.records.specs.Reading.{commaAt, stored, fieldEnd, lineFields, nextFields, lastEnd, nextWords, FieldsRead, ReadSoFar, HeadIs, letterFirst, HeadAt, Ahead, stayed, passed, stepOf}
+use Rattle.fields.proofs.Short.{FieldBefore, Before, short-before}
+use Rattle.records.specs.Reading.{commaAt, stored, fieldEnd, lineFields, nextFields, lastEnd, nextWords, FieldsRead, ReadSoFar}
+use Rattle.records.specs.Reading.{HeadIs, letterFirst, HeadAt, Ahead, noStep, stayed, stepBy, stepOf}
 use Rattle.records.specs.declared.Head.{Head}
 use Rattle.records.specs.declared.Step.{Step}
-use Rattle.lines.specs.declared.Kind.{Kind}
-use Rattle.lines.specs.declared.Kind.the-variants.{Unknown}
 use Rattle.lines.specs.declared.LineRead.{LineRead}
 use Rattle.fields.specs.declared.FieldRead.{FieldRead}
 use Rattle.fields.specs.declared.ShortRead.{ShortRead}
+use Rattle.fields.specs.declared.ShortRead.the-variants.{Next, Last, Another}
 
 -- ---- the first field of the bytes that are left
 
@@ -139,41 +140,41 @@ module _ (s : List ℕ) (e : ℕ) where
   unfolding lastEnd
   no-end h = simp h
 
--- ---- the first field's kind
+-- ---- the first field's letter
 
 module _ (s : List ℕ) (start end : ℕ) (h : start ≤ end) (k : end ≤ length s) where
   part : length (take (end - start) (drop start s)) ≡ end - start
   part = rw (length-take, length-drop) (omega arith)
 
-  pub kind-one : end - start ≡ 1 → kindOf (getD s start 0) ≡ kindIn (take (end - start) (drop start s))
-  kind-one e = rw (e, drop-cons s start 0 (omega arith))
+  pub letter-one : end - start ≡ 1 → getD s start 0 ≡ letterIn (take (end - start) (drop start s))
+  letter-one e = rw (e, drop-cons s start 0 (omega arith))
 
-  pub kind-other : (end - start ≡ 1 → ⊥) → kindIn (take (end - start) (drop start s)) ≡ Unknown
-  kind-other n = go (take (end - start) (drop start s)) part
+  pub letter-none : (end - start ≡ 1 → ⊥) → 0 ≡ letterIn (take (end - start) (drop start s))
+  letter-none n = go (take (end - start) (drop start s)) part
     where
-      go : (l : List ℕ) → length l ≡ end - start → kindIn l ≡ Unknown
+      go : (l : List ℕ) → length l ≡ end - start → 0 ≡ letterIn l
       go [] e = refl
       go (b ∷ []) e = absurd (n (sym e))
       go (b ∷ c ∷ l) e = refl
 
 -- the first field ends at first
-pub kind-is : (s : List ℕ) (start first : ℕ) (kind : Kind) → start ≤ length s → first ≡ start + fieldLength (drop start s)
-    → kind ≡ kindIn (take (first - start) (drop start s)) → kind ≡ recordOf (lineAt s start) .kind
+letter-is : (s : List ℕ) (start first letter : ℕ) → start ≤ length s → first ≡ start + fieldLength (drop start s)
+    → letter ≡ letterIn (take (first - start) (drop start s)) → letter ≡ recordOf (lineAt s start) .letter
 unfolding recordOf lineAt lineFields
-kind-is s start first kind h f l =
+letter-is s start first letter h f l =
     let m : first - start ≡ fieldLength (drop start s) = omega arith in
     rw (first-field s start first h f) (rw m at l)
 
 -- ---- the line, field by field
 
-store-set : (l : List ℕ) (k v : ℕ) → length l ≡ 8 → stored l k v ≡ set l k v
+store-set : (l : List ℕ) (k v : ℕ) → length l ≡ WORDS → stored l k v ≡ set l k v
 store-set l k v h =
-    elim (decLe 8 k) [
-      | yes g ↦ simp (le-ltb k 8 g) (sym (set-out l k v (omega arith)))
-      | no g ↦ simp (lt-ltb k 8 (lt-of-not-le g))
+    elim (decLe WORDS k) [
+      | yes g ↦ simp (le-ltb k WORDS g) (sym (set-out l k v (omega arith)))
+      | no g ↦ simp (lt-ltb k WORDS (lt-of-not-le g))
     ]
 
-pub none-read : (s : List ℕ) (first : ℕ) → FieldsRead s first (replicate 8 0) 0 first
+pub none-read : (s : List ℕ) (first : ℕ) → FieldsRead s first (replicate WORDS 0) 0 first
 none-read s first = record { size = refl; words = refl; counted = omega arith; ended = refl }
 
 module _ (s : List ℕ) (first : ℕ) (held : List ℕ) (count end : ℕ) (r : FieldsRead s first held count end) where
@@ -197,17 +198,17 @@ module _ (s : List ℕ) (first : ℕ) (held : List ℕ) (count end : ℕ) (r : F
       rw (store-set held count (wordOf (f .said)) (r .size), add-one count)
       (word-read (wordOf (f .said)) (f .end) h (ap wordOf (k .said) ∙ word-said (fieldOf (fieldAt s (end + 1)))) (k .end))
 
-  pub all-read : (start : ℕ) (kind : Kind) → start ≤ length s → first ≡ fieldEnd s start → kind ≡ recordOf (lineAt s start) .kind → commaAt s end ≡ false
-      → ReadAt s start (record { kind = kind; count = count; words = held; end = end })
+  all-read : (start letter : ℕ) → start ≤ length s → first ≡ fieldEnd s start → letter ≡ recordOf (lineAt s start) .letter → commaAt s end ≡ false
+      → ReadAt s start (record { letter = letter; count = count; words = held; end = end })
   unfolding recordOf lineAt lineFields words
-  all-read start kind h f l z =
+  all-read start letter h f l z =
       let t = no-fields s end z in
       let q = first-field s start first h f in
       let n : length (nextFields s first) ≡ count = omega (arith, ap length t, r .counted) in
-      let w : held ≡ sets (replicate 8 0) 0 (nextWords s first) = rw t at (r .words) in
+      let w : held ≡ sets (replicate WORDS 0) 0 (nextWords s first) = rw t at (r .words) in
       let d : end ≡ start + lineLength (drop start s) = sym (no-end s end z) ∙ r .ended ∙ sym (first-end s start first h f) in
       record {
-        kind = l;
+        letter = l;
         count = rw (q, length-map) (sym n);
         words = rw q w;
         end = d;
@@ -230,21 +231,31 @@ letter-at s start e f =
     let h : start < length s - 1 = ltb-true _ _ (a .0) in
     record { ends = eqb-true _ _ (b .0); letter = ltb-true _ _ (a .1); comma = eqb-true _ _ (b .1); inside = omega arith }
 
-comma-at : (s : List ℕ) (e : ℕ) → e < length s → getD s e 0 ≡ COMMA → commaAt s e ≡ true
-comma-at s e h c = simp (lt-ltb e (length s) h, eq-eqb (getD s e 0) COMMA c)
+comma-at : (s : List ℕ) (e : ℕ) → getD s e 0 ≡ COMMA → commaAt s e ≡ true
+comma-at s e c = simp (lt-ltb e (length s) inside, eq-eqb (getD s e 0) COMMA c)
+  where
+    inside : e < length s
+    inside = elim (decLe (length s) e) [ yes g ↦ absurd (omega (arith, List·getD-eq-default s 0 g)) | no g ↦ lt-of-not-le g ]
 
-pub any-head : (s : List ℕ) (start end : ℕ) (kind : Kind) → start ≤ length s → end ≡ fieldEnd s start → end ≤ length s
-    → kind ≡ kindIn (take (end - start) (drop start s)) → HeadIs s start kind end
-any-head s start end kind h e m k = record { kind-is = kind-is s start end kind h e k; ends = e; most = m }
+other-at : (s : List ℕ) (e : ℕ) → (getD s e 0 ≡ COMMA → ⊥) → commaAt s e ≡ false
+other-at s e n = simp (ne-eqb (getD s e 0) COMMA n) (go (ltb e (length s)))
+  where
+    go : (t : Bool) → cond t false false ≡ false
+    go true = refl
+    go false = refl
+
+pub any-head : (s : List ℕ) (start end letter : ℕ) → start ≤ length s → end ≡ fieldEnd s start → end ≤ length s
+    → letter ≡ letterIn (take (end - start) (drop start s)) → HeadIs s start letter end
+any-head s start end letter h e m k = record { letter-is = letter-is s start end letter h e k; ends = e; most = m }
 
 module _ (s : List ℕ) (start : ℕ) (e : ltb start (length s - 1) && ltb COMMA (getD s start 0) ≡ true)
     (f : eqb (getD s (length s - 1) 0) LF && eqb (getD s (start + 1) 0) COMMA ≡ true) where
-  pub letter-head : HeadIs s start (kindOf (getD s start 0)) (start + 1)
+  pub letter-head : HeadIs s start (getD s start 0) (start + 1)
   letter-head =
       let a = letter-at s start e f in
       let i = a .inside in
-      any-head s start (start + 1) (kindOf (getD s start 0)) (omega arith) (field-one s start (a .inside) (inl (a .comma)) (a .letter)) (omega arith)
-      (kind-one s start (start + 1) (omega arith) (omega arith) (let one : start + 1 - start ≡ 1 = omega arith in one))
+      any-head s start (start + 1) (getD s start 0) (omega arith) (field-one s start (a .inside) (inl (a .comma)) (a .letter)) (omega arith)
+      (letter-one s start (start + 1) (omega arith) (omega arith) (let one : start + 1 - start ≡ 1 = omega arith in one))
 
 pub no-letter : (s : List ℕ) (start : ℕ) → ltb start (length s - 1) && ltb COMMA (getD s start 0) ≡ false → letterFirst s start ≡ false
 no-letter s start e = ap (λ (p : Bool). cond p (eqb (getD s (length s - 1) 0) LF && eqb (getD s (start + 1) 0) COMMA) false) e
@@ -268,7 +279,7 @@ field-most s start h = omega (arith, field-short (drop start s), length-drop sta
 pub ahead-inside : (s : List ℕ) (at : ℕ) → EndsInLF s × (commaAt s at ≡ true) → at + 1 < length s
 ahead-inside s at a =
     let i = comma-in s at (a .1) in
-    not-last s at (a .0) i (λ (e : getD s at 0 ≡ LF). absurd (never (sym (simp (lt-ltb at (length s) i, ne-eqb (getD s at 0) COMMA (λ c. omega arith))) ∙ a .1)))
+    not-last s at (a .0) i (λ (e : getD s at 0 ≡ LF). never (sym (other-at s at (λ c. omega arith)) ∙ a .1))
 
 -- what is known after steps for k fields
 pub record Steps (s : List ℕ) (first : ℕ) (k : ℕ) (held : List ℕ) (f : Step) : Type 0 where
@@ -284,71 +295,70 @@ module _ (s : List ℕ) (first k : ℕ) (held : List ℕ) (f : Step) (p : Steps 
       rw z
       record { fields = p .fields; tried = λ e. absurd (never e); ended = p .ended; least = p .least; most = p .most }
 
-  steps-pass : f .more ≡ true → Steps s first (suc k) (set held k (passed s f .word)) (passed s f)
-  steps-pass e =
+  -- a field that is read, with a comma behind it or none
+  steps-pass : f .more ≡ true → (said end behind : ℕ) (more : Bool) → FieldBefore s (f .end + 1) said end behind → commaAt s end ≡ more
+      → Steps s first (suc k) (set held k said) (record { word = said; count = f .count + 1; end = end; more = more; done = not more })
+  steps-pass e said end behind more b c =
       let o = p .tried e in
       let i = comma-in s (f .end) (o .1) in
       let m = field-most s (f .end + 1) (omega arith) in
       let one : f .count + 1 ≡ suc (f .count) = omega arith in
       record {
-        fields = rw (one, sym (o .0)) (word-read s first held (f .count) (f .end) (p .fields) _ _ (o .1) refl refl);
-        tried = λ c. (omega (arith, o .0), c);
-        ended = λ c. not-true _ c;
-        least = omega (arith, p .least);
-        most = m;
+        fields = rw (one, sym (o .0)) (word-read s first held (f .count) (f .end) (p .fields) said end (o .1) (b .says) (b .ends));
+        tried = λ t. (omega (arith, o .0), c ∙ t);
+        ended = λ t. c ∙ not-true more t;
+        least = omega (arith, p .least, b .ends);
+        most = omega (arith, m, b .ends);
       }
+
+  steps-by : f .more ≡ true → (r : ShortRead) → Before s (f .end + 1) r → Steps s first (suc k) (set held k (stepBy f r .word)) (stepBy f r)
+  steps-by e (Next said end) b = steps-pass e said end COMMA true b (comma-at s end (b .stops))
+  steps-by e (Last said end) b = steps-pass e said end LF false b (other-at s end (λ c. omega (arith, b .stops)))
+  steps-by e Another b = steps-stay
 
   steps-next : Steps s first (suc k) (set held k (stepOf s f .word)) (stepOf s f)
   unfolding stepOf
-  steps-next = go (f .more) refl (isShort (word (fieldOf (fieldAt s (f .end + 1)))))
+  steps-next = go (f .more) refl
     where
-      go : (m : Bool) → f .more ≡ m → (t : Bool)
-          → Steps s first (suc k) (set held k (cond m (cond t (passed s f) (stayed f)) (stayed f) .word)) (cond m (cond t (passed s f) (stayed f)) (stayed f))
-      go true e true = steps-pass e
-      go true e false = steps-stay
-      go false e t = steps-stay
+      go : (m : Bool) → f .more ≡ m
+          → Steps s first (suc k) (set held k (cond m (stepBy f (shortAt s (f .end + 1))) (stayed f) .word))
+          (cond m (stepBy f (shortAt s (f .end + 1))) (stayed f))
+      go true e = steps-by e (shortAt s (f .end + 1)) (short-before s (f .end + 1))
+      go false e = steps-stay
 
   pub step : (r : Step) → r ≡ stepOf s f → Steps s first (suc k) (set held k (r .word)) r
   step r e = rw e steps-next
 
 -- ---- one step of the code
 
-module _ (s : List ℕ) (f : Step) (g : ShortRead) (k : ShortAt s (f .end + 1) g) where
-  -- the field that was read
-  abbrev pub went : Step
-  went = record { word = g .word; count = f .count + 1; end = g .end; more = g .more; done = not (g .more) }
-
-  module _ (t : g .read ≡ true) where
-    behind : g .more ≡ commaAt s (g .end)
-    behind = let b = k .before t in b .behind ∙ sym (simp (lt-ltb (g .end) (length s) (b .inside)))
-
-    went-passed : went ≡ passed s f
-    went-passed = let b = k .before t in rw (behind, b .says, b .ends)
-
-    pub step-passed : f .more ≡ true → went ≡ stepOf s f
-    unfolding stepOf
-    step-passed m =
-        went-passed ∙ sym (ap₂ (λ (p q : Bool). cond p (cond q (passed s f) (stayed f)) (stayed f)) m (sym (k .read) ∙ t))
-
-    pub step-ahead : EndsInLF s → Ahead s went
-    step-ahead l e = (l, sym behind ∙ e)
-
-    pub step-fits : f .count ≤ f .end → f .count + 1 ≤ g .end
-    step-fits h = let b = k .before t in omega (arith, b .ends)
-
-  pub step-stayed : g .read ≡ false → stayed f ≡ stepOf s f
+module _ (s : List ℕ) (f : Step) where
+  pub step-tried : f .more ≡ true → (r : ShortRead) → r ≡ shortAt s (f .end + 1) → stepBy f r ≡ stepOf s f
   unfolding stepOf
-  step-stayed t = go (f .more) (isShort (word (fieldOf (fieldAt s (f .end + 1))))) (sym (k .read) ∙ t)
-    where
-      go : (p q : Bool) → q ≡ false → stayed f ≡ cond p (cond q (passed s f) (stayed f)) (stayed f)
-      go p true e = absurd (never (sym e))
-      go true false e = refl
-      go false false e = refl
+  step-tried m r e = ap (stepBy f) e ∙ ap (λ (p : Bool). cond p (stepBy f (shortAt s (f .end + 1))) (stayed f)) (sym m)
 
-pub step-none : (s : List ℕ) (f : Step) → f .more ≡ false → stayed f ≡ stepOf s f
-unfolding stepOf
-step-none s f m =
-    ap (λ (p : Bool). cond p (cond (isShort (word (fieldOf (fieldAt s (f .end + 1))))) (passed s f) (stayed f)) (stayed f)) (sym m)
+  pub step-none : f .more ≡ false → stayed f ≡ stepOf s f
+  unfolding stepOf
+  step-none m = ap (λ (p : Bool). cond p (stepBy f (shortAt s (f .end + 1))) (stayed f)) (sym m)
+
+  module _ (a : Ahead s f) (h : f .count ≤ f .end) where
+    bounds-by : f .more ≡ true → (r : ShortRead) → Before s (f .end + 1) r → Ahead s (stepBy f r) × (stepBy f r .count ≤ stepBy f r .end)
+    bounds-by m (Next said end) b = (λ e. (a m .0, comma-at s end (b .stops)), omega (arith, b .ends))
+    bounds-by m (Last said end) b = (λ e. absurd (never e), omega (arith, b .ends))
+    bounds-by m Another b = (λ e. absurd (never e), h)
+
+    step-bounds : Ahead s (stepOf s f) × (stepOf s f .count ≤ stepOf s f .end)
+    unfolding stepOf
+    step-bounds = go (f .more) refl
+      where
+        go : (m : Bool) → f .more ≡ m
+            → Ahead s (cond m (stepBy f (shortAt s (f .end + 1))) (stayed f))
+            × (cond m (stepBy f (shortAt s (f .end + 1))) (stayed f) .count ≤ cond m (stepBy f (shortAt s (f .end + 1))) (stayed f) .end)
+        go true m = bounds-by m (shortAt s (f .end + 1)) (short-before s (f .end + 1))
+        go false m = (λ e. absurd (never e), h)
+
+    -- what `next_field` promises of a step
+    pub step-done : (r : Step) → r ≡ stepOf s f → (r ≡ stepOf s f) × (Ahead s r × (r .count ≤ r .end))
+    step-done r e = (e, rw e step-bounds)
 
 -- ---- the line
 
@@ -360,12 +370,12 @@ letter-both false q e = absurd (never e)
 module _ (s : List ℕ) (start : ℕ) (h : Head) (k : HeadAt s start h) where
   pub head-ahead : h .more ≡ true → EndsInLF s × (commaAt s (h .end) ≡ true)
   head-ahead e =
-      let b = letter-both _ _ (sym (k .letter) ∙ e) in
+      let b = letter-both _ _ (sym (k .more) ∙ e) in
       let a = letter-at s start (b .0) (b .1) in
       let end : start + 1 ≡ h .end = field-one s start (a .inside) (inl (a .comma)) (a .letter) ∙ sym (k .is .ends) in
-      (a .ends, rw (sym end) (comma-at s (start + 1) (a .inside) (a .comma)))
+      (a .ends, rw (sym end) (comma-at s (start + 1) (a .comma)))
 
-  pub no-step : Steps s (fieldEnd s start) 0 (replicate 8 0) (record { word = 0; count = 0; end = h .end; more = h .more; done = false })
+  pub no-step : Steps s (fieldEnd s start) 0 (replicate WORDS 0) (noStep h)
   no-step =
       let e = k .is .ends in
       record {
@@ -377,20 +387,20 @@ module _ (s : List ℕ) (start : ℕ) (h : Head) (k : HeadAt s start h) where
       }
 
 -- the line up to the last step, and that it is all of it where that says so
-pub eight-read : (s : List ℕ) (start : ℕ) (hd : Head) (a b c d e f g h : Step) → HeadAt s start hd
-    → a ≡ stepOf s (record { word = 0; count = 0; end = hd .end; more = hd .more; done = false }) → b ≡ stepOf s a → c ≡ stepOf s b → d ≡ stepOf s c
+pub eight-read : (s : List ℕ) (start : ℕ) (hd : Head) (z a b c d e f g h : Step) → HeadAt s start hd
+    → z ≡ noStep hd → a ≡ stepOf s z → b ≡ stepOf s a → c ≡ stepOf s b → d ≡ stepOf s c
     → e ≡ stepOf s d → f ≡ stepOf s e → g ≡ stepOf s f → h ≡ stepOf s g → h .count ≤ h .end
     → ReadSoFar s start
     (record {
-      kind = hd .kind;
+      letter = hd .letter;
       count = h .count;
       words = a .word ∷ b .word ∷ c .word ∷ d .word ∷ e .word ∷ f .word ∷ g .word ∷ h .word ∷ [];
       end = h .end;
     })
     × (h .done ≡ true → commaAt s (h .end) ≡ false)
-eight-read s start hd a b c d e f g h k ea eb ec ed ee ef eg eh n =
+eight-read s start hd z a b c d e f g h k ez ea eb ec ed ee ef eg eh n =
     let first : ℕ = fieldEnd s start in
-    let sa = step s first 0 _ _ (no-step s start hd k) refl a ea in
+    let sa = step s first 0 (replicate WORDS 0) z (rw ez (no-step s start hd k)) refl a ea in
     let sb = step s first 1 _ a sa refl b eb in
     let sc = step s first 2 _ b sb refl c ec in
     let sd = step s first 3 _ c sc refl d ed in
@@ -398,20 +408,22 @@ eight-read s start hd a b c d e f g h k ea eb ec ed ee ef eg eh n =
     let sf = step s first 5 _ e se refl f ef in
     let sg = step s first 6 _ f sf refl g eg in
     let sh = step s first 7 _ g sg refl h eh in
-    (record { kind = k .is .kind-is; fields = sh .fields; least = omega (arith, sh .least); most = sh .most; fits = n }, sh .ended)
+    (record { letter = k .is .letter-is; fields = sh .fields; least = omega (arith, sh .least); most = sh .most; fits = n }, sh .ended)
 
 module _ (s : List ℕ) (start : ℕ) (l : LineRead) (p : ReadSoFar s start l) where
   -- no field is left
   pub so-far-all : commaAt s (l .end) ≡ false → ReadAt s start l × ((start ≤ l .end) × (l .end ≤ length s))
   so-far-all z =
-      (all-read s (fieldEnd s start) (l .words) (l .count) (l .end) (p .fields) start (l .kind) (omega (arith, p .least, p .most)) refl (p .kind) z, (p .least, p .most))
+      let inside : start ≤ length s = omega (arith, p .least, p .most) in
+      (all-read s (fieldEnd s start) (l .words) (l .count) (l .end) (p .fields) start (l .letter) inside refl (p .letter) z, (p .least, p .most))
 
   -- one field more
   pub so-far-more : (f : FieldRead) → commaAt s (l .end) ≡ true → FieldReadAt s (l .end + 1) f → FieldBounds s (l .end + 1) f
-      → ReadSoFar s start (record { kind = l .kind; count = l .count + 1; words = stored (l .words) (l .count) (wordOf (f .said)); end = f .end })
+      → ReadSoFar s start
+      (record { letter = l .letter; count = l .count + 1; words = stored (l .words) (l .count) (wordOf (f .said)); end = f .end })
   so-far-more f c k b =
       record {
-        kind = p .kind;
+        letter = p .letter;
         fields = one-read s (fieldEnd s start) (l .words) (l .count) (l .end) (p .fields) f c k;
         least = omega (arith, p .least, b .least);
         most = b .most;

@@ -1,2 +1,2 @@
--- A line's fields as the code reads them.
+-- For the code only: a line's fields as the code reads them.
 pub mod Reading

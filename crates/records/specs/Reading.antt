@@ -1,6 +1,6 @@
--- A line's fields as the code reads them. Laws join them to Records; nothing here adds to document 01's meaning.
+-- For the code only: a line's fields as the code reads them. Laws join them to Records.
 use mathlib.Core.Path.{_≡_}
-use mathlib.Core.Bool.{Bool, true, false, cond, _&&_, not}
+use mathlib.Core.Bool.{Bool, true, false, cond, _&&_}
 use mathlib.Core.List.{List, [], map}
 use Prim.Native.Nat.{ℕ, _+_, _-_, _≤_}
 use lib.Dec.{eqb, ltb}
@@ -8,10 +8,11 @@ use lib.ListN.{length, take, drop, getD, set, replicate}
 use lib.Seq.{sets}
 use Rattle.lines.specs.Lines.{LF, COMMA, fieldsOf}
 use Rattle.lines.specs.Records.{fieldOf, recordOf}
-use Rattle.lines.specs.Words.{word, lineLength, lineAt}
-use Rattle.lines.specs.declared.Kind.{Kind}
+use Rattle.lines.specs.Words.{WORDS, word, lineLength, lineAt}
 use Rattle.lines.specs.declared.LineRead.{LineRead}
-use Rattle.fields.specs.Scan.{fieldLength, fieldAt, isShort, EndsInLF}
+use Rattle.fields.specs.Scan.{fieldLength, EndsInLF, shortAt}
+use Rattle.fields.specs.declared.ShortRead.{ShortRead}
+use Rattle.fields.specs.declared.ShortRead.the-variants.{Next, Last, Another}
 use Rattle.records.specs.declared.Head.{Head}
 use Rattle.records.specs.declared.Step.{Step}
 
@@ -21,7 +22,7 @@ commaAt sheet place = cond (ltb place (length sheet)) (eqb (getD sheet place 0) 
 
 -- eight words with this one at k, where k is below eight
 abbrev pub stored : (words : List ℕ) → (k : ℕ) → (word : ℕ) → List ℕ
-stored words k word = cond (ltb k 8) (set words k word) words
+stored words k word = cond (ltb k WORDS) (set words k word) words
 
 -- where the field that starts at a place ends
 abbrev pub fieldEnd : (sheet : List ℕ) → (start : ℕ) → ℕ
@@ -46,14 +47,14 @@ nextWords sheet end = map word (map fieldOf (nextFields sheet end))
 
 -- what is known once the fields up to end are read; the first field ends at first
 pub record FieldsRead (sheet : List ℕ) (first : ℕ) (held : List ℕ) (count end : ℕ) : Type 0 where
-  pub size : length held ≡ 8
-  pub words : sets held count (nextWords sheet end) ≡ sets (replicate 8 0) 0 (nextWords sheet first)
+  pub size : length held ≡ WORDS
+  pub words : sets held count (nextWords sheet end) ≡ sets (replicate WORDS 0) 0 (nextWords sheet first)
   pub counted : count + length (nextFields sheet end) ≡ length (nextFields sheet first)
   pub ended : lastEnd sheet end ≡ lastEnd sheet first
 
 -- a line of which some fields are read
 pub record ReadSoFar (sheet : List ℕ) (start : ℕ) (l : LineRead) : Type 0 where
-  pub kind : l .kind ≡ recordOf (lineAt sheet start) .kind
+  pub letter : l .letter ≡ recordOf (lineAt sheet start) .letter
   pub fields : FieldsRead sheet (fieldEnd sheet start) (l .words) (l .count) (l .end)
   pub least : start ≤ l .end
   pub most : l .end ≤ length sheet
@@ -61,9 +62,9 @@ pub record ReadSoFar (sheet : List ℕ) (start : ℕ) (l : LineRead) : Type 0 wh
 
 -- ---- a line's head
 
--- the kind of a line, and where its first field ends
-pub record HeadIs (sheet : List ℕ) (start : ℕ) (kind : Kind) (end : ℕ) : Type 0 where
-  pub kind-is : kind ≡ recordOf (lineAt sheet start) .kind
+-- the letter of a line, and where its first field ends
+pub record HeadIs (sheet : List ℕ) (start letter end : ℕ) : Type 0 where
+  pub letter-is : letter ≡ recordOf (lineAt sheet start) .letter
   pub ends : end ≡ fieldEnd sheet start
   pub most : end ≤ length sheet
 
@@ -75,8 +76,8 @@ letterFirst sheet start =
     false
 
 pub record HeadAt (sheet : List ℕ) (start : ℕ) (h : Head) : Type 0 where
-  pub is : HeadIs sheet start (h .kind) (h .end)
-  pub letter : h .more ≡ letterFirst sheet start
+  pub is : HeadIs sheet start (h .letter) (h .end)
+  pub more : h .more ≡ letterFirst sheet start
 
 -- ---- a step from field to field
 
@@ -84,21 +85,20 @@ pub record HeadAt (sheet : List ℕ) (start : ℕ) (h : Head) : Type 0 where
 abbrev pub Ahead : (sheet : List ℕ) → Step → Type 0
 Ahead sheet f = f .more ≡ true → EndsInLF sheet × (commaAt sheet (f .end) ≡ true)
 
+-- no field is tried yet
+abbrev pub noStep : Head → Step
+noStep h = record { word = 0; count = 0; end = h .end; more = h .more; done = false }
+
 -- no field is read
 abbrev pub stayed : Step → Step
 stayed f = record { word = 0; count = f .count; end = f .end; more = false; done = f .done }
 
--- the next field is read
-abbrev pub passed : (sheet : List ℕ) → Step → Step
-passed sheet f =
-    record {
-      word = word (fieldOf (fieldAt sheet (f .end + 1)));
-      count = f .count + 1;
-      end = fieldEnd sheet (f .end + 1);
-      more = commaAt sheet (fieldEnd sheet (f .end + 1));
-      done = not (commaAt sheet (fieldEnd sheet (f .end + 1)));
-    }
+-- the next field is read, if it is a short one
+abbrev pub stepBy : Step → ShortRead → Step
+stepBy f (Next word end) = record { word = word; count = f .count + 1; end = end; more = true; done = false }
+stepBy f (Last word end) = record { word = word; count = f .count + 1; end = end; more = false; done = true }
+stepBy f Another = stayed f
 
--- it is where one more is tried and it is a short one
+-- it is tried where a comma stands before it
 unfoldable pub stepOf : (sheet : List ℕ) → Step → Step
-stepOf sheet f = cond (f .more) (cond (isShort (word (fieldOf (fieldAt sheet (f .end + 1))))) (passed sheet f) (stayed f)) (stayed f)
+stepOf sheet f = cond (f .more) (stepBy f (shortAt sheet (f .end + 1))) (stayed f)

@@ -1,51 +1,35 @@
-// A line read from the sheet's bytes: its kind's letter, then its fields.
+// A line read from the sheet's bytes: its letter, then its fields.
 ghost use mathlib.Core.Path.{_≡_};
 ghost use mathlib.Core.Bool.{false};
 ghost use Prim.Native.Nat.{_-_, _≤_, _<_};
 ghost use lib.ListN.{length, take, drop};
-ghost use Rattle.lines.specs.Records.{kindOf, kindIn, recordOf};
+ghost use Rattle.lines.specs.Records.{letterIn, recordOf};
 ghost use Rattle.lines.specs.Words.{lineAt, ReadAt};
-ghost use Rattle.records.specs.Reading.{commaAt, stored, ReadSoFar, HeadIs, HeadAt, Ahead, stayed, stepOf};
+ghost use Rattle.records.specs.Reading.{commaAt, stored, ReadSoFar, HeadIs, HeadAt, Ahead, noStep, stayed, stepOf};
+use fields::ShortRead;
 use fields::first_end;
 use fields::read_field;
 use fields::short_field;
 use fields::word_of;
-use lines::Kind;
 use lines::LineRead;
 use lines::WORDS;
 
-// ---- a line: its kind's letter, then its fields
+// ---- a line: its letter, then its fields
 
-// The kind whose letter this byte is.
-fn kind_of(letter: u8) -> Kind
-    ensures { λ r. ⌜ r ≡ kindOf letter ⌝ }
-{
-    match letter {
-        b'P' => Kind::Process,
-        b'S' => Kind::SourceStream,
-        b'H' => Kind::Heat,
-        b'W' => Kind::WasteGas,
-        b'E' => Kind::Power,
-        b'B' => Kind::BoughtPrecursor,
-        b'G' => Kind::OwnGood,
-        _ => Kind::Unknown,
-    }
-}
-
-// The kind of a line by its first field, which is one letter.
-fn kind_in(s: &[u8], start: usize, end: usize) -> Kind
+// The letter that a line's first field is: its one byte, 0 where it has none or several.
+fn letter_in(s: &[u8], start: usize, end: usize) -> u8
     requires { ⌜ (start ≤ end) × (end ≤ length (now s)) ⌝ }
-    ensures { λ r. ⌜ r ≡ kindIn (take (end - start) (drop start (now (s .entry)))) ⌝ }
+    ensures { λ r. ⌜ r ≡ letterIn (take (end - start) (drop start (now (s .entry)))) ⌝ }
 {
     if end - start == 1 {
-        return kind_of(s[start]);
+        return s[start];
     }
-    Kind::Unknown
+    0
 }
 
-// The kind of a line and the place behind its first field; `more` where that is a letter and a comma, in a sheet that ends in LF.
+// The letter of a line and the place behind its first field; `more` where that is a letter and a comma, in a sheet that ends in LF.
 struct Head {
-    kind: Kind,
+    letter: u8,
     end: usize,
     more: bool,
 }
@@ -53,23 +37,14 @@ struct Head {
 // The head of a line, whatever it is.
 fn any_head(s: &[u8], start: usize) -> Head
     requires { ⌜ start ≤ length (now s) ⌝ }
-    ensures { λ r. ⌜ HeadIs (now (s .entry)) start (r .kind) (r .end) × (r .more ≡ false) ⌝ }
+    ensures { λ r. ⌜ HeadIs (now (s .entry)) start (r .letter) (r .end) × (r .more ≡ false) ⌝ }
 {
     let end = first_end(s, start);
     Head {
-        kind: kind_in(s, start, end),
+        letter: letter_in(s, start, end),
         end,
         more: false,
     }
-}
-
-// The kind of the line that starts here.
-pub fn line_kind(s: &[u8], start: usize) -> Kind
-    requires { ⌜ start ≤ length (now s) ⌝ }
-    ensures { λ r. ⌜ r ≡ recordOf (lineAt (now (s .entry)) start) .kind ⌝ }
-{
-    let first = any_head(s, start);
-    first.kind
 }
 
 // A comma behind a field: one more field follows.
@@ -98,7 +73,7 @@ fn read_on(s: &[u8], start: usize, l: LineRead) -> LineRead
     ensures { λ r. ⌜ ReadAt (now (s .entry)) start r ⌝ }
     ensures bounded { λ r. ⌜ (start ≤ r .end) × (r .end ≤ length (now (s .entry))) ⌝ }
 {
-    let kind = l.kind;
+    let letter = l.letter;
     let mut words = l.words;
     let mut count = l.count;
     let mut end = l.end;
@@ -110,7 +85,7 @@ fn read_on(s: &[u8], start: usize, l: LineRead) -> LineRead
         end = field.end;
     }
     LineRead {
-        kind,
+        letter,
         count,
         words,
         end,
@@ -139,7 +114,7 @@ fn line_head(s: &[u8], start: usize) -> Head
     if (start < last) & (b',' < letter) {
         if (s[last] == b'\n') & (s[start + 1] == b',') {
             return Head {
-                kind: kind_of(letter),
+                letter,
                 end: start + 1,
                 more: true,
             };
@@ -147,6 +122,19 @@ fn line_head(s: &[u8], start: usize) -> Head
         return any_head(s, start);
     }
     any_head(s, start)
+}
+
+// No field is tried yet.
+fn no_step(first: Head) -> Step
+    ensures { λ r. ⌜ r ≡ noStep first ⌝ }
+{
+    Step {
+        word: 0,
+        count: 0,
+        end: first.end,
+        more: first.more,
+        done: false,
+    }
 }
 
 // No field is read.
@@ -172,16 +160,29 @@ fn next_field(s: &[u8], f: Step) -> Step
     let at = f.end;
     if f.more {
         let field = short_field(s, at + 1);
-        if field.read {
-            return Step {
-                word: field.word,
-                count: f.count + 1,
-                end: field.end,
-                more: field.more,
-                done: !field.more,
-            };
+        match field {
+            ShortRead::Next(word, end) => {
+                return Step {
+                    word,
+                    count: f.count + 1,
+                    end,
+                    more: true,
+                    done: false,
+                };
+            }
+            ShortRead::Last(word, end) => {
+                return Step {
+                    word,
+                    count: f.count + 1,
+                    end,
+                    more: false,
+                    done: true,
+                };
+            }
+            ShortRead::Another => {
+                return stay(f);
+            }
         }
-        return stay(f);
     }
     stay(f)
 }
@@ -193,15 +194,7 @@ pub fn read_line(s: &[u8], start: usize) -> LineRead
     ensures bounded { λ r. ⌜ (start ≤ r .end) × (r .end ≤ length (now (s .entry))) ⌝ }
 {
     let first = line_head(s, start);
-    let kind = first.kind;
-    let none = Step {
-        word: 0,
-        count: 0,
-        end: first.end,
-        more: first.more,
-        done: false,
-    };
-    let a = next_field(s, none);
+    let a = next_field(s, no_step(first));
     let b = next_field(s, a);
     let c = next_field(s, b);
     let d = next_field(s, c);
@@ -220,7 +213,7 @@ pub fn read_line(s: &[u8], start: usize) -> LineRead
         h.word,
     ];
     let l = LineRead {
-        kind,
+        letter: first.letter,
         count: h.count,
         words,
         end: h.end,

@@ -11,14 +11,16 @@ use Rattle.decimal.specs.Number.{allDigits, isNumber, valueFrom}
 use Rattle.decimal.specs.Spelling.{digits, spelling}
 use Rattle.lines.specs.Lines.{linesOf, fieldsOf}
 use Rattle.lines.specs.Records.{fieldOf, recordOf, recordsOf}
-use Rattle.sheet.specs.Kinds.{methodRules, rules}
+use Rattle.sheet.specs.Kinds.{kindOf, kindAmong, methodRules, rules}
 use Rattle.sheet.specs.Refusals.{anyOf, sumOf}
-use Rattle.sheet.specs.Verdict.{firstOf, fieldChecks, lineChecks, linesChecks, sheetChecks}
+use Rattle.sheet.specs.Verdict.{firstOf, fieldChecks, shapeChecks, lineChecks, linesChecks, sheetChecks}
 use Rattle.goods.specs.Sums.{sumTo, onlyAt}
 use Rattle.attribution.specs.Sums.{sumOfℤ}
-use Rattle.entries.specs.Weighed.{streamOf, heatOf, chargeOf, creditOf, powerOf, boughtDirectOf, boughtIndirectOf}
-use Rattle.attribution.specs.Attribution.{streams, heatIn, heatOut, gasCharged, gasCredited, powerIn, powerOut, boughtDirect, boughtIndirect, balance, raised, direct, indirect}
-use Rattle.attribution.specs.Reckoning.{kilosOf, processCount, output, kilosBetween, directPool, indirectPool, directLeft, indirectLeft, totalLeft, entered, totalRaised, uncredited, rowsTo, reckoning}
+use Rattle.entries.specs.Weighed.{streamOf, heatOf, chargeOf, creditOf, electricityOf, boughtDirectOf, boughtIndirectOf}
+use Rattle.attribution.specs.Attribution.{streams, heatIn, heatOut, gasCharged, gasCredited, electricityIn}
+use Rattle.attribution.specs.Attribution.{electricityOut, boughtDirect, boughtIndirect, balance, raised, direct, indirect}
+use Rattle.attribution.specs.Reckoning.{kilosOf, processCount, output, kilosBetween, directPool, indirectPool, directLeft}
+use Rattle.attribution.specs.Reckoning.{indirectLeft, totalLeft, entered, totalRaised, uncredited, rowsTo, reckoning}
 use Rattle.attribution.specs.Verdict.{rowsGrams, anyFrom, figureTooLarge, reckonerChecks}
 use Rattle.report.specs.Report.{specific, reportOf}
 use Rattle.report.specs.Spelling.{threeDigits, spellFigure, spellFigures, spellLines, rowLine, totalLine, reportBytes}
@@ -30,9 +32,10 @@ pub printed-hold : map (λ p. carbon limits (bytes (p .sheet))) printed ≡ map 
 unfolding printed
     allDigits isNumber valueFrom digits spelling
     round fossilGrams combustionGrams processGrams carbonGrams streamGrams fuels carbonates fuelOf carbonateOf weight wasteGasCharge wasteGasCredit
-    linesOf fieldsOf fieldOf recordOf recordsOf methodRules rules anyOf sumOf firstOf fieldChecks lineChecks linesChecks sheetChecks
-    sumTo sumOfℤ onlyAt streamOf heatOf chargeOf creditOf powerOf boughtDirectOf boughtIndirectOf
-    streams heatIn heatOut gasCharged gasCredited powerIn powerOut boughtDirect boughtIndirect balance raised direct indirect
+    linesOf fieldsOf fieldOf recordOf recordsOf kindOf kindAmong methodRules rules
+    anyOf sumOf firstOf fieldChecks shapeChecks lineChecks linesChecks sheetChecks
+    sumTo sumOfℤ onlyAt streamOf heatOf chargeOf creditOf electricityOf boughtDirectOf boughtIndirectOf
+    streams heatIn heatOut gasCharged gasCredited electricityIn electricityOut boughtDirect boughtIndirect balance raised direct indirect
     takers totalKilos portion left portionOf portionsTaken poolsTo poolOf leftOf
     kilosOf processCount output kilosBetween directPool indirectPool directLeft indirectLeft totalLeft entered totalRaised uncredited rowsTo reckoning
     rowsGrams anyFrom figureTooLarge reckonerChecks
@@ -43,9 +46,10 @@ pub given-hold : map (λ g. outcome limits (bytes (g .sheet)) (bytes (g .space))
 unfolding given allChecks verdict outcome
     allDigits isNumber valueFrom digits spelling
     round fossilGrams combustionGrams processGrams carbonGrams streamGrams fuels carbonates fuelOf carbonateOf weight wasteGasCharge wasteGasCredit
-    linesOf fieldsOf fieldOf recordOf recordsOf methodRules rules anyOf sumOf firstOf fieldChecks lineChecks linesChecks sheetChecks
-    sumTo sumOfℤ onlyAt streamOf heatOf chargeOf creditOf powerOf boughtDirectOf boughtIndirectOf
-    streams heatIn heatOut gasCharged gasCredited powerIn powerOut boughtDirect boughtIndirect balance raised direct indirect
+    linesOf fieldsOf fieldOf recordOf recordsOf kindOf kindAmong methodRules rules
+    anyOf sumOf firstOf fieldChecks shapeChecks lineChecks linesChecks sheetChecks
+    sumTo sumOfℤ onlyAt streamOf heatOf chargeOf creditOf electricityOf boughtDirectOf boughtIndirectOf
+    streams heatIn heatOut gasCharged gasCredited electricityIn electricityOut boughtDirect boughtIndirect balance raised direct indirect
     takers totalKilos portion left portionOf portionsTaken poolsTo poolOf leftOf
     kilosOf processCount output kilosBetween directPool indirectPool directLeft indirectLeft totalLeft entered totalRaised uncredited rowsTo reckoning
     rowsGrams anyFrom figureTooLarge reckonerChecks

@@ -4,5 +4,5 @@ pub mod Cases
 pub mod Reading
 pub mod OneReport
 pub mod Outcome
-pub mod Low
+pub mod Sixteen
 pub mod Longest

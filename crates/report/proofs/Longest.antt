@@ -12,20 +12,22 @@ use lib.ListN.{length, length-append}
 use Rattle.decimal.specs.Spelling.{spelling}
 use Rattle.decimal.proofs.Bools.{or-neither}
 use Rattle.decimal.proofs.Widths.{nineteen}
-use Rattle.quantity.specs.Limits.{Limits}
+use Rattle.quantity.specs.Limits.{Limits, wholeGrams}
 use Rattle.lines.specs.Lines.{Line, linesOf}
-use Rattle.lines.specs.Records.{Record, recordOf, recordsOf, is}
-use Rattle.lines.specs.declared.Kind.the-variants.{Process}
+use Rattle.lines.specs.Records.{Record, recordOf, recordsOf}
+use Rattle.sheet.specs.Kinds.{Process, is}
 use Rattle.sheet.specs.Refusals.{sumOf}
 use Rattle.sheet.specs.Verdict.{lineChecks, linesChecks, sheetChecks}
-use Rattle.sheet.proofs.First.{All, all-append, Passes, passes-accepted}
+use Rattle.sheet.specs.Verdict.{All, Passes}
+use Rattle.sheet.proofs.First.{all-append, passes-accepted}
 use Rattle.sheet.proofs.Held.{Held, held-none, held-next, processesAfter}
 use Rattle.attribution.specs.Reckoning.{Row, Totals, processCount, rowOf, rowsTo, reckoning}
 use Rattle.attribution.specs.Verdict.{rowGrams, totalGrams, rowsGrams, anyFrom, figureTooLarge, reckonerChecks}
 use Rattle.report.specs.Report.{specific, reportRow, reportOf}
-use Rattle.report.specs.Spelling.{Figure, whole, thousandths, signed, threeDigits, spellFigure, spellFigures, ReportLine, spellLines, rowLine, totalLine, reportBytes}
+use Rattle.report.specs.Spelling.{Figure, whole, thousandths, signed, threeDigits, spellFigure, spellFigures}
+use Rattle.report.specs.Spelling.{ReportLine, spellLines, rowLine, totalLine, reportBytes}
 use Rattle.report.specs.Outcome.{longest, sheetReport, outcome}
-use Rattle.report.proofs.Low.{all-join, short-only}
+use Rattle.report.proofs.Sixteen.{all-join, short-only}
 
 -- ---- a field
 
@@ -155,7 +157,7 @@ module _ (limits : Limits) where
 
     grams-below : All Below (rowsGrams (reckoning (recordsOf sheet) .rows) ++ totalGrams (reckoning (recordsOf sheet) .totals))
     unfolding reckonerChecks figureTooLarge
-    grams-below = none-from (2 ^ 63) _ (all-append Passes (sheetChecks limits sheet) _ passed .1 .0)
+    grams-below = none-from wholeGrams _ (all-append Passes (sheetChecks limits sheet) _ passed .1 .0)
 
     -- the report of a sheet that rows 1 to 15 pass
     pub report-most : length (sheetReport sheet) ≤ longest limits
@@ -163,7 +165,8 @@ module _ (limits : Limits) where
     report-most =
         let rs : List Record = recordsOf sheet in
         let n = few in
-        let m = lines-most (rowsTo rs (processCount rs)) (reckoning rs .totals) (rows-numbered rs (processCount rs) (let p : processCount rs < 2 ^ 63 = omega arith in p)) grams-below in
+        let small : processCount rs < 2 ^ 63 = omega arith in
+        let m = lines-most (rowsTo rs (processCount rs)) (reckoning rs .totals) (rows-numbered rs (processCount rs) small) grams-below in
         omega (arith, rows-long rs (processCount rs))
 
   -- A SPACE OF `longest` BYTES IS NEVER TOO SHORT

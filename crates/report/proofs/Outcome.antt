@@ -11,7 +11,8 @@ use lib.ListN.{length, drop, length-append, length-drop}
 use Rattle.quantity.specs.Limits.{Limits}
 use Rattle.lines.specs.Records.{recordsOf}
 use Rattle.sheet.specs.Verdict.{check, Verdict, accepted, refused, sheetChecks}
-use Rattle.sheet.proofs.First.{All, all-append, Passes, First, accepted-iff, refused-iff, decided}
+use Rattle.sheet.specs.Verdict.{All, Passes, First}
+use Rattle.sheet.proofs.First.{all-append, accepted-iff, refused-iff, decided}
 use Rattle.attribution.specs.Reckoning.{reckoning}
 use Rattle.attribution.specs.Verdict.{figureTooLarge, reckonerChecks}
 use Rattle.attribution.proofs.Exact.{NothingAdded}

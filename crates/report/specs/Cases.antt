@@ -1,4 +1,4 @@
--- Worked examples of the whole job: what `carbon` prints, and the outcome with a report space.
+-- Examples. The whole job: what `carbon` prints, and the outcome with a report space.
 use mathlib.Core.List.{List, [], _∷_}
 use Prim.Native.Nat.{ℕ}
 use Prim.Native.String.{String}

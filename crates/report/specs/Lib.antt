@@ -1,4 +1,4 @@
--- Document 01, "The report", and the outcome of the whole job, in the paper's order.
+-- For the reader, in document 01's order: Report, Spelling, Outcome. Examples: Marked, Cases.
 pub mod Report
 pub mod Spelling
 pub mod Outcome

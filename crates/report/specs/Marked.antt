@@ -1,4 +1,4 @@
--- Document 01, "What the contracts say", d: the marked cases, one table.
+-- Examples. Document 01, "What the contracts say", d: the marked cases, one table.
 use mathlib.Core.List.{List, [], _∷_}
 use Prim.Native.Nat.{ℕ}
 use Prim.Native.String.{String}

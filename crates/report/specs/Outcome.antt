@@ -1,4 +1,5 @@
--- Document 01, "Sheets sent back" and "What the contracts say", a: number, line, report length and each byte of the report space.
+-- For the reader. Document 01, "Sheets sent back" and "What the contracts say", a: number, line, report length and each byte of the report
+-- space.
 use mathlib.Core.Bool.{Bool}
 use mathlib.Core.List.{List, [], _∷_, _++_}
 use Prim.Native.Nat.{ℕ, _+_, _*_}

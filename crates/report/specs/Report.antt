@@ -1,4 +1,4 @@
--- Document 01, "The report": its values.
+-- For the reader. Document 01, "The report": its values.
 use mathlib.Core.List.{List, map}
 use Prim.Native.Nat.{ℕ, _*_, _/_}
 use Rattle.attribution.specs.Reckoning.{Row, Totals, Reckoning}

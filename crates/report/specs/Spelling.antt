@@ -1,4 +1,4 @@
--- Document 01, "The report": its bytes.
+-- For the reader. Document 01, "The report": its bytes.
 use mathlib.Core.List.{List, [], _∷_, _++_, map}
 use Prim.Native.Nat.{ℕ, suc, _+_, _/_, _%_}
 use lib.IntN.{ℤ, pos, negsuc}

@@ -7,9 +7,10 @@ use native.Mathlib.Decide.{decLe}
 use native.Mathlib.Omega.{arith}
 use lib.ListN.{length, take, length-append}
 use Rattle.decimal.specs.Spelling.{spelling}
-use Rattle.goods.specs.Settling.{figures}
+use Rattle.goods.specs.ByProcess.{figures}
 use Rattle.report.specs.Report.{reportRow, reportOf}
-use Rattle.report.specs.Spelling.{Figure, whole, minus, thousandths, threeDigits, spellFigure, spellFigures, ReportLine, reportLine, spellLines, rowLine, totalLine, reportBytes}
+use Rattle.report.specs.Spelling.{Figure, whole, minus, thousandths, threeDigits, spellFigure, spellFigures, ReportLine, reportLine}
+use Rattle.report.specs.Spelling.{spellLines, rowLine, totalLine, reportBytes}
 use Rattle.figures.specs.Figures.{FIELDS, three, spelt, tailed, line, held}
 use Rattle.figures.proofs.Widths.{length-line}
 use Rattle.reckoner.specs.declared.Reckoning.{Reckoning}
@@ -36,7 +37,8 @@ tailed-held (f ∷ fs) = rw (held-spelt f, tailed-held fs)
 
 pub row-same : (r : Reckoning) (k output direct indirect raised directPool indirectPool directLeft indirectLeft : ℕ)
     → output ≡ figures (r .outputs .0) k → direct ≡ figures (r .figures .direct .0) k → indirect ≡ figures (r .figures .indirect .0) k
-    → raised ≡ figures (r .figures .raised .0) k → directPool ≡ figures (r .figures .«direct_pools» .0) k → indirectPool ≡ figures (r .figures .«indirect_pools» .0) k
+    → raised ≡ figures (r .figures .raised .0) k
+    → directPool ≡ figures (r .figures .«direct_pools» .0) k → indirectPool ≡ figures (r .figures .«indirect_pools» .0) k
     → directLeft ≡ figures (r .figures .«direct_lefts» .0) k → indirectLeft ≡ figures (r .figures .«indirect_lefts» .0) k
     → record {
       process = k;
@@ -82,7 +84,11 @@ rows-none r = refl
 pub rows-more : (r : Reckoning) (k : ℕ) → rowsBytes r (k + 1) ≡ rowsBytes r k ++ line 82 (rowFields r (k + 1))
 unfolding rowsBytes rowsHeld
 rows-more r k =
-    rw (add-one k, map-append reportRow (rowsHeld r k) (rowHeld r (suc k) ∷ []), map-append rowLine (map reportRow (rowsHeld r k)) (reportRow (rowHeld r (suc k)) ∷ []))
+    rw (
+      add-one k,
+      map-append reportRow (rowsHeld r k) (rowHeld r (suc k) ∷ []),
+      map-append rowLine (map reportRow (rowsHeld r k)) (reportRow (rowHeld r (suc k)) ∷ []),
+    )
     (lines-append (map rowLine (map reportRow (rowsHeld r k))) (rowLine (reportRow (rowHeld r (suc k))) ∷ [])
     ∙ ap (λ (l : List ℕ). spellLines (map rowLine (map reportRow (rowsHeld r k))) ++ l) (row-line r (suc k)))
 

@@ -1,12 +1,11 @@
--- The report of what the reckoner gives, in the report's definitions. Laws join it to the report of the sheet.
+-- For the code only: the report of what the reckoner gives, in the report's definitions. Laws join it to the report of the sheet.
 use mathlib.Core.List.{List, [], _∷_, _++_, map}
-use Prim.Native.Nat.{ℕ, zero, suc, _^_, _≤_, _<_}
+use Prim.Native.Nat.{ℕ, zero, suc, _≤_, _<_}
 use lib.IntN.{natAbs}
-use Rattle.quantity.specs.Limits.{limits}
-use Rattle.goods.specs.Settling.{SIZE, figures}
+use Rattle.quantity.specs.Limits.{wholeGrams}
+use Rattle.goods.specs.ByProcess.{SIZE, figures}
 use Rattle.attribution.specs.Reckoning as attribution
 use Rattle.report.specs.Report.{reportRow, reportOf}
-use Rattle.report.specs.Outcome.{longest}
 use Rattle.report.specs.Spelling.{rowLine, totalLine, spellLines, reportBytes}
 use Rattle.figures.specs.Figures.{held}
 use Rattle.figures.specs.declared.Figure.{Figure}
@@ -14,16 +13,12 @@ use Rattle.works.specs.Works.{MOST}
 use Rattle.reckoner.specs.declared.Reckoning.{Reckoning}
 use Rattle.rows.specs.declared.Row.{Row}
 
--- no report has more bytes
-abbrev pub LONGEST : ℕ
-LONGEST = longest limits
-
 -- what the writer asks of a reckoning
-pub record Sound (r : Reckoning) : Type 0 where
+pub record CanBeWritten (r : Reckoning) : Type 0 where
   pub few : r .count < SIZE
   pub made : (k : ℕ) → 1 ≤ k → k ≤ r .count → 1 ≤ figures (r .outputs .0) k
   pub small : (k : ℕ) → 1 ≤ k → k ≤ r .count → figures (r .outputs .0) k ≤ MOST
-  pub sign : natAbs (r .entered .0) < 2 ^ 63
+  pub sign : natAbs (r .entered .0) < wholeGrams
 
 -- the figures of process k
 unfoldable pub rowHeld : Reckoning → (k : ℕ) → attribution.Row

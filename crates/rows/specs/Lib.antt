@@ -1,2 +1,2 @@
--- The report of what the reckoner gives.
+-- For the code only: Held.
 pub mod Held

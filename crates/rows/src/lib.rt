@@ -1,15 +1,16 @@
 // Document 01, "The report": the lines of a reckoning's report, written into a lent space.
 ghost use mathlib.Core.Path.{_≡_};
-ghost use Prim.Native.Nat.{_+_, _^_, _≤_, _<_};
+ghost use Prim.Native.Nat.{_+_, _≤_, _<_};
 ghost use lib.ListN.{length};
 ghost use lib.IntN.{natAbs};
+ghost use Rattle.quantity.specs.Limits.{wholeGrams};
 ghost use Rattle.decimal.specs.Writing.{Put};
 ghost use Rattle.report.specs.Report.{specific};
 ghost use Rattle.report.specs.Spelling.{thousandths, signed};
 ghost use Rattle.figures.specs.Figures.{FIELDS, held, tailed, line};
-ghost use Rattle.goods.specs.Settling.{SIZE, figures};
+ghost use Rattle.goods.specs.ByProcess.{SIZE, figures};
 ghost use Rattle.works.specs.Works.{MOST};
-ghost use Rattle.rows.specs.Held.{Sound, rowSaid, fieldsOf, totalFields, rowsBytes, bytesHeld};
+ghost use Rattle.rows.specs.Held.{CanBeWritten, rowSaid, fieldsOf, totalFields, rowsBytes, bytesHeld};
 use figures::FIELDS;
 use figures::Figure;
 use figures::put_byte;
@@ -33,7 +34,7 @@ fn specific_figure(pool: Grams, output: Kilos) -> Figure
 
 // A total that may carry `-`.
 fn signed_figure(total: SignedGrams) -> Figure
-    requires { ⌜ natAbs (total .0) < 2 ^ 63 ⌝ }
+    requires { ⌜ natAbs (total .0) < wholeGrams ⌝ }
     ensures { λ r. ⌜ r ≡ held (signed (total .0)) ⌝ }
 {
     let grams = total.0;
@@ -96,7 +97,7 @@ fn row_fields(row: Row) -> [Figure; FIELDS]
 
 // Writes the last line.
 fn put_totals(space: &mut [u8], at: usize, r: Reckoning) -> usize
-    requires { ⌜ (Sound r) × (at + (length (tailed (totalFields r)) + 2) ≤ length (now space)) ⌝ }
+    requires { ⌜ (CanBeWritten r) × (at + (length (tailed (totalFields r)) + 2) ≤ length (now space)) ⌝ }
     ensures { λ n. ⌜ Put (now (space .entry)) at (line 84 (totalFields r)) (now (space .exit)) n ⌝ }
 {
     let entered = r.entered;
@@ -110,7 +111,7 @@ fn put_totals(space: &mut [u8], at: usize, r: Reckoning) -> usize
 
 // Writes the lines of all processes.
 fn put_rows(space: &mut [u8], r: Reckoning) -> usize
-    requires { ⌜ (Sound r) × (length (bytesHeld r) ≤ length (now space)) ⌝ }
+    requires { ⌜ (CanBeWritten r) × (length (bytesHeld r) ≤ length (now space)) ⌝ }
     ensures { λ n. ⌜ Put (now (space .entry)) 0 (rowsBytes r (r .count)) (now (space .exit)) n ⌝ }
 {
     let f = r.figures;
@@ -137,7 +138,7 @@ fn put_rows(space: &mut [u8], r: Reckoning) -> usize
 
 // Writes the report at the start of a space that has room for it.
 pub fn put_report(space: &mut [u8], r: Reckoning) -> usize
-    requires { ⌜ (Sound r) × (length (bytesHeld r) ≤ length (now space)) ⌝ }
+    requires { ⌜ (CanBeWritten r) × (length (bytesHeld r) ≤ length (now space)) ⌝ }
     ensures { λ n. ⌜ Put (now (space .entry)) 0 (bytesHeld r) (now (space .exit)) n ⌝ }
 {
     let at = put_rows(space, r);

@@ -2,7 +2,9 @@
 -- b a bit. Assumes nothing.
 use mathlib.Core.Path.{_≡_, sym, ap, subst, _∙_}
 use Prim.Native.Nat.{ℕ, _+_, _-_, _*_, _/_, _%_, _^_, _≤_, _<_}
-use native.Mathlib.Nat.{mod-lt, le-trans, le-of-lt, le-of-eq, lt-of-lt-of-le, div-add-mod', lt-of-le-of-lt, lt-of-mul-lt-mul-right, mul-lt-mul-of-pos-right, mul-le-mul-left, mul-le-mul-right, mul-comm, add-mul, mul-right-comm, div-eq-of-lt-le, div-eq-of-lt, div-one, div-mul-le-self, le-div-iff-mul-le, div-le-of-le-mul}
+use native.Mathlib.Nat.{mod-lt, le-trans, le-of-lt, le-of-eq, lt-of-lt-of-le, div-add-mod', lt-of-le-of-lt, lt-of-mul-lt-mul-right}
+use native.Mathlib.Nat.{mul-lt-mul-of-pos-right, mul-le-mul-left, mul-le-mul-right, mul-comm, add-mul, mul-right-comm}
+use native.Mathlib.Nat.{div-eq-of-lt-le, div-one, div-mul-le-self, le-div-iff-mul-le, div-le-of-le-mul}
 use native.Mathlib.Omega.{arith}
 use lib.Bits.{bitAnd, and-mask}
 use lib.Count.{leadingZeros, leading-le, leading-length}

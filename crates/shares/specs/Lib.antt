@@ -1,2 +1,2 @@
--- What the exact quotient asks of its arguments.
+-- For the code only: Ranges.
 pub mod Ranges

@@ -1,4 +1,4 @@
--- What `share`, `parted_share` and `portion` ask of their arguments: kilograms of goods within the output that they are taken of.
+-- For the code only: what `share`, `parted_share` and `portion` ask of their arguments: kilograms of goods within the output that they are taken of.
 use Prim.Native.Nat.{ℕ, _≤_}
 
 -- a part of a whole: the whole is at most 2^61

@@ -5,31 +5,11 @@ use mathlib.Core.Bool.{Bool, true, false, cond}
 use mathlib.Core.List.{List, [], _∷_, _++_}
 use Prim.Native.Nat.{ℕ}
 use native.Mathlib.Omega.{arith}
-use Rattle.sheet.specs.Verdict.{Check, Verdict, accepted, refused, firstOf}
+use Rattle.sheet.specs.Verdict.{Check, Verdict, accepted, refused, firstOf, numberOf, lineOf, All, Passes, First}
 
-module _ {A : Type 0} (P : A → Type 0) where
-  abbrev pub All : List A → Type 0
-  All [] = Unit {0}
-  All (x ∷ xs) = P x × All xs
-
-  pub all-append : (xs ys : List A) → All (xs ++ ys) → All xs × All ys
-  all-append [] ys h = (tt, h)
-  all-append (x ∷ xs) ys h = let r = all-append xs ys (h .1) in ((h .0, r .0), r .1)
-
--- a row that does not apply
-abbrev pub Passes : Check → Type 0
-Passes c = c .applies ≡ false
-
--- the row `number` at `line` applies, and none before it in the order of judging does
-pub record First (cs : List Check) (number line : ℕ) : Type 0 where
-  pub before : List Check
-  pub found : Check
-  pub after : List Check
-  pub split : cs ≡ before ++ (found ∷ after)
-  pub earlier : All Passes before
-  pub applies : found .applies ≡ true
-  pub its-number : found .number ≡ number
-  pub its-line : found .line ≡ line
+pub all-append : {A : Type 0} (P : A → Type 0) (xs ys : List A) → All P (xs ++ ys) → All P xs × All P ys
+all-append P [] ys h = (tt, h)
+all-append P (x ∷ xs) ys h = let r = all-append P xs ys (h .1) in ((h .0, r .0), r .1)
 
 not-accepted : (number line : ℕ) → refused number line ≡ accepted → ⊥
 not-accepted number line e = let z : _≡_ {A = ℕ} 0 1 = cc in omega arith
@@ -94,3 +74,30 @@ decided cs = go (firstOf cs) refl
     go : (v : Verdict) → firstOf cs ≡ v → All Passes cs ⊎ ((number line : ℕ) × First cs number line)
     go accepted e = inl (accepted-passes cs e)
     go (refused number line) e = inr (number, line, refused-first cs number line e)
+
+-- ---- one list of checks before another
+
+pub first-rest : (a b : List Check) → firstOf a ≡ accepted → firstOf (a ++ b) ≡ firstOf b
+unfolding firstOf
+first-rest [] b h = refl
+first-rest (c ∷ a) b h = go (c .applies) refl (λ p. first-rest a b p) h
+  where
+    go : (t : Bool) → c .applies ≡ t → (firstOf a ≡ accepted → firstOf (a ++ b) ≡ firstOf b)
+        → cond t (refused (c .number) (c .line)) (firstOf a) ≡ accepted → cond t (refused (c .number) (c .line)) (firstOf (a ++ b)) ≡ firstOf b
+    go true e ih h = absurd (not-accepted _ _ h)
+    go false e ih h = ih h
+
+pub first-here : (a b : List Check) (n k : ℕ) → firstOf a ≡ refused n k → firstOf (a ++ b) ≡ refused n k
+unfolding firstOf
+first-here [] b n k h = absurd (not-accepted n k (sym h))
+first-here (c ∷ a) b n k h = go (c .applies) (λ p. first-here a b n k p) h
+  where
+    go : (t : Bool) → (firstOf a ≡ refused n k → firstOf (a ++ b) ≡ refused n k)
+        → cond t (refused (c .number) (c .line)) (firstOf a) ≡ refused n k → cond t (refused (c .number) (c .line)) (firstOf (a ++ b)) ≡ refused n k
+    go true ih h = h
+    go false ih h = ih h
+
+-- a verdict of a number is refused by it
+pub numbered : (v : Verdict) → (numberOf v ≡ 0 → ⊥) → v ≡ refused (numberOf v) (lineOf v)
+numbered accepted h = absurd (h refl)
+numbered (refused n k) h = refl

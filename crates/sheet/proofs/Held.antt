@@ -7,17 +7,16 @@ use native.Mathlib.Omega.{arith}
 use borrow.Author.Tests.{eq-eqb, ne-eqb, eqb-true, eqb-false, leb-true, leb-false, le-leb, lt-leb, not-false}
 use lib.Dec.{eqb, leb}
 use lib.ListN.{length, getD}
-use Rattle.decimal.proofs.Bools.{never, or-neither}
+use Rattle.decimal.proofs.Bools.{or-neither}
 use Rattle.lines.specs.Lines.{Line}
-use Rattle.lines.specs.Records.{Field, Record, recordOf, letter, field, is}
-use Rattle.lines.specs.declared.Kind.{Kind}
-use Rattle.lines.specs.declared.Kind.the-variants.{Process, SourceStream, Heat, WasteGas, Power, BoughtPrecursor, OwnGood, Unknown}
+use Rattle.lines.specs.Records.{Record, recordOf, field}
 use Rattle.quantity.specs.Limits.{Limits}
-use Rattle.sheet.specs.Kinds.{Rule, exactly, processNumber, rules}
+use Rattle.sheet.specs.Kinds.{Kind, Process, OwnGood, kind, is, Rule, exactly, methodRules, processNumber, rules}
 use Rattle.sheet.specs.Refusals.{anyOf, sumOf, process, from, to, outputIn, takenIn, hasProcess}
 use Rattle.sheet.specs.Verdict.{accepted, firstOf, lineChecks}
 use Rattle.sheet.proofs.First.{accepted-passes}
-use Rattle.sheet.proofs.Passed.{Fine, line-fine, in-range}
+use Rattle.sheet.proofs.Passed.{PassedLine, line-passed, in-range}
+use Rattle.sheet.proofs.Table.{kind-is}
 
 -- ---- what the code holds of the lines above
 
@@ -42,17 +41,6 @@ GoodAsked above kind f t processes output taken pair =
 
 -- ---- the lines above, one more
 
--- a P line has the kind that its letter says
-is-process : (k : Kind) → eqb (letter k) (letter Process) ≡ true → k ≡ Process
-is-process Process e = refl
-is-process SourceStream e = absurd (never e)
-is-process Heat e = absurd (never e)
-is-process WasteGas e = absurd (never e)
-is-process Power e = absurd (never e)
-is-process BoughtPrecursor e = absurd (never e)
-is-process OwnGood e = absurd (never e)
-is-process Unknown e = absurd (never e)
-
 next-named : (n p : ℕ) (a b : Bool) → (a || b) ≡ leb n p → (a || (eqb n (suc p) || b)) ≡ leb n (suc p)
 next-named n p a b h = go (eqb n (suc p)) refl a h
   where
@@ -66,11 +54,11 @@ next-named n p a b h = go (eqb n (suc p)) refl a h
         same false q = sym (lt-leb n (suc p) (let z = leb-false n p q in let y : n ≡ suc p → ⊥ = eqb-false n (suc p) e in omega arith))
 
 -- its first field is its number
-first-rule : (limits : Limits) (k : Kind) → k ≡ Process → (f : Field)
-    → (0 < length (rules limits k f)) × (getD (rules limits k f) 0 (exactly 0) ≡ processNumber limits)
+first-rule : (limits : Limits) (k : Kind) → k ≡ Process → (rest : List Rule)
+    → (0 < length (rules limits k rest)) × (getD (rules limits k rest) 0 (exactly 0) ≡ processNumber limits)
 unfolding rules
-first-rule limits k e f =
-    subst (λ (k : Kind). (0 < length (rules limits k f)) × (getD (rules limits k f) 0 (exactly 0) ≡ processNumber limits)) (sym e) (omega arith, refl)
+first-rule limits k e rest =
+    subst (λ (k : Kind). (0 < length (rules limits k rest)) × (getD (rules limits k rest) 0 (exactly 0) ≡ processNumber limits)) (sym e) (omega arith, refl)
 
 module _ (limits : Limits) where
   -- above the first line
@@ -92,30 +80,31 @@ module _ (limits : Limits) where
   unfolding anyOf
   held-next above l processes h a = go (is Process (recordOf l)) refl
     where
-      fine : Fine limits above l
-      fine = line-fine limits above l (accepted-passes (lineChecks limits above l) a)
+      passed : PassedLine limits above l
+      passed = line-passed limits above l (accepted-passes (lineChecks limits above l) a)
 
       next : is Process (recordOf l) ≡ true → (process (recordOf l) ≡ suc (length above)) × (processes ≡ length above)
       next e =
           let others : Bool = anyOf (λ q. not (is Process q)) above in
           let turn : Bool = not (eqb (process (recordOf l)) (suc (length above))) in
-          let both = or-neither turn others (sym (ap (λ (t : Bool). t && (turn || others)) e) ∙ fine .next) in (
+          let both = or-neither turn others (sym (ap (λ (t : Bool). t && (turn || others)) e) ∙ passed .next) in (
             eqb-true _ _ (not-false (eqb (process (recordOf l)) (suc (length above))) (both .0)),
             eqb-true _ _ (not-false (eqb processes (length above)) (sym (h .others) ∙ both .1)),
           )
 
       most : is Process (recordOf l) ≡ true → process (recordOf l) ≤ limits .processes
       most e =
-          let first = first-rule limits (recordOf l .kind) (is-process (recordOf l .kind) e) (field (recordOf l) 1) in
-          let range = in-range limits above l fine 0 (first .0) (ap (λ (r : Rule). r .dashAllowed) (first .1)) in
+          let first = first-rule limits (kind (recordOf l)) (kind-is Process (recordOf l) e) (methodRules (field (recordOf l) 1)) in
+          let range = in-range limits (recordOf l) (passed .ranges) 0 (first .0) (ap (λ (r : Rule). r .dashAllowed) (first .1)) in
           omega (arith, range .1, ap (λ (r : Rule). r .highest) (first .1))
 
       go : (t : Bool) → is Process (recordOf l) ≡ t → Held limits (recordOf l ∷ above) (cond t (suc processes) processes)
       go true e =
           let q = next e in
           let m = most e in
+          let own = q .0 ∙ ap suc (sym (q .1)) in
           record {
-            named = λ n. ap₂ (λ (t : Bool) (p : ℕ). eqb n 0 || (t && eqb n p || anyOf (λ r. is Process r && eqb n (process r)) above)) e (q .0 ∙ ap suc (sym (q .1)))
+            named = λ n. ap₂ (λ (t : Bool) (p : ℕ). eqb n 0 || (t && eqb n p || anyOf (λ r. is Process r && eqb n (process r)) above)) e own
                 ∙ next-named n processes (eqb n 0) (anyOf (λ r. is Process r && eqb n (process r)) above) (h .named n);
             others = ap (λ (t : Bool). not t || anyOf (λ q. not (is Process q)) above) e ∙ h .others
                 ∙ ap not (eq-eqb processes (length above) (q .1) ∙ sym (eq-eqb (suc processes) (suc (length above)) (ap suc (q .1))));
@@ -124,7 +113,8 @@ module _ (limits : Limits) where
           }
       go false e = record {
         named = λ n. ap (λ (t : Bool). eqb n 0 || (t && eqb n (process (recordOf l)) || anyOf (λ r. is Process r && eqb n (process r)) above)) e ∙ h .named n;
-        others = ap (λ (t : Bool). not t || anyOf (λ q. not (is Process q)) above) e ∙ sym (ap not (ne-eqb processes (suc (length above)) (λ q. let f = h .few in omega arith)));
+        others = ap (λ (t : Bool). not t || anyOf (λ q. not (is Process q)) above) e
+            ∙ sym (ap not (ne-eqb processes (suc (length above)) (λ q. let f = h .few in omega arith)));
         few = let f = h .few in omega arith;
         most = h .most;
       }

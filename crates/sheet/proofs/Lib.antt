@@ -1,6 +1,6 @@
 -- Laws that the crates above cite.
 pub mod Cases
-pub mod EveryKind
+pub mod Table
 pub mod First
 pub mod Passed
 pub mod OneSheet

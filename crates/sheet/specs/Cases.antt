@@ -1,4 +1,4 @@
--- Sheets and their verdicts: the examples of document 01's table of refusals, worked examples of the order of judging, and both sides of
+-- Examples. Sheets and their verdicts: the examples of document 01's table of refusals, worked examples of the order of judging, and both sides of
 -- each limit.
 use mathlib.Core.List.{List, [], _∷_}
 use Prim.Native.String.{String}

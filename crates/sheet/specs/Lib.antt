@@ -1,5 +1,6 @@
--- Document 01, "The sheet" and "Sheets sent back", in the paper's order.
+-- For the reader, in document 01's order: Kinds, Refusals, Verdict. For the code only: Ranges. Examples: Cases.
 pub mod Kinds
 pub mod Refusals
 pub mod Verdict
+pub mod Ranges
 pub mod Cases

@@ -6,8 +6,7 @@ ghost use Rattle.quantity.specs.Limits.{limits};
 ghost use Rattle.lines.specs.Lines.{linesOf, lineBytes, lineStart};
 ghost use Rattle.places.specs.LinePlace.{PlaceOf};
 ghost use Rattle.report.specs.Outcome.{outcome};
-ghost use Rattle.rows.specs.Held.{LONGEST};
-ghost use Rattle.writer.specs.Given.{gives};
+ghost use Rattle.writer.specs.Given.{LONGEST, gives};
 use places::line_place;
 use writer::LONGEST;
 use writer::report;
@@ -20,8 +19,9 @@ pub extern "C" fn wiltoresh_report(
     line: &mut usize,
     length: &mut usize,
 ) -> u64
-    ensures { λ n. ⌜ gives (record { number = n; line = now (line .exit); length = now (length .exit) }) (now (space .exit)) ≡ outcome limits (now (sheet .entry)) (now (space .entry)) ⌝ }
-    ensures roomy { λ n. ⌜ (LONGEST ≤ lib.ListN.length (now (space .entry)) → n ≡ 16 → ⊥) ⌝ }
+    ensures { λ n. ⌜ gives (record { number = n; line = now (line .exit); length = now (length .exit) }) (now (space .exit))
+        ≡ outcome limits (now (sheet .entry)) (now (space .entry)) ⌝ }
+    ensures long_enough { λ n. ⌜ (LONGEST ≤ lib.ListN.length (now (space .entry)) → n ≡ 16 → ⊥) ⌝ }
 {
     let answer = report(sheet, space);
     *line = answer.line;

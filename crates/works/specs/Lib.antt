@@ -1,2 +1,2 @@
--- What the code holds of the lines above.
+-- For the code only: Works.
 pub mod Works

@@ -3,9 +3,8 @@ ghost use mathlib.Core.Path.{_≡_};
 ghost use Prim.Native.Nat.{_≤_};
 ghost use Rattle.ledger.specs.Columns.{AtMost};
 ghost use Rattle.quantity.specs.Limits.{limits};
-ghost use Rattle.entries.specs.Read.{recordRead, Shaped};
+ghost use Rattle.entries.specs.Read.{LineKeeps};
 ghost use Rattle.works.specs.Works.{outputNoted, takenNoted, pairNoted, countAfter, outputsAfter, takenAfter, kilosAfter, OutputAsked, KilosAsked, MOST};
-use super::judging::letter_of;
 use goods::KilosByPair;
 use goods::SIZE;
 use lines::LineRead;
@@ -35,14 +34,12 @@ fn note_good(taken: &mut [u64; SIZE], kilos: &mut KilosByPair, l: LineRead)
 
 // The output of a P line noted; the result is how many P lines there are with it.
 pub fn note_process(outputs: &mut [u64; SIZE], count: usize, l: LineRead) -> usize
-    requires { ⌜ Shaped limits (recordRead l) ⌝ }
-    requires { ⌜ l .count ≤ 8 ⌝ }
+    requires { ⌜ LineKeeps l ⌝ }
     requires { ⌜ (count ≤ limits .lines) × AtMost MOST (now outputs) ⌝ }
     ensures count { λ r. ⌜ r ≡ countAfter count l ⌝ }
     ensures outputs { λ r. ⌜ now (outputs .exit) ≡ outputsAfter (now (outputs .entry)) l ⌝ }
 {
-    let kind = l.kind;
-    if letter_of(kind) == b'P' {
+    if l.letter == b'P' {
         note_output(outputs, l);
         return count + 1;
     }
@@ -51,14 +48,12 @@ pub fn note_process(outputs: &mut [u64; SIZE], count: usize, l: LineRead) -> usi
 
 // The kilograms of a G line noted.
 pub fn note_own_good(taken: &mut [u64; SIZE], kilos: &mut KilosByPair, l: LineRead)
-    requires { ⌜ Shaped limits (recordRead l) ⌝ }
-    requires { ⌜ l .count ≤ 8 ⌝ }
+    requires { ⌜ LineKeeps l ⌝ }
     requires { ⌜ AtMost MOST (now taken) × AtMost MOST (now kilos) ⌝ }
     ensures taken { λ r. ⌜ now (taken .exit) ≡ takenAfter (now (taken .entry)) l ⌝ }
     ensures pairs { λ r. ⌜ now (kilos .exit) ≡ kilosAfter (now (kilos .entry)) l ⌝ }
 {
-    let kind = l.kind;
-    if letter_of(kind) == b'G' {
+    if l.letter == b'G' {
         note_good(taken, kilos, l);
     }
 }

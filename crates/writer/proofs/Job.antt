@@ -11,9 +11,9 @@ use Rattle.quantity.specs.Limits.{limits}
 use Rattle.decimal.specs.Writing.{Put}
 use Rattle.decimal.proofs.Writing.{start-bytes, start-place}
 use Rattle.lines.specs.Records.{Record, recordsOf}
-use Rattle.sheet.specs.Verdict.{Check, check, Verdict, accepted, refused, firstOf}
-use Rattle.judge.specs.Code.{refusalNumber}
-use Rattle.sheet.proofs.First.{accepted-passes}
+use Rattle.sheet.specs.Verdict.{Check, check, Verdict, refused, firstOf}
+use Rattle.checks.specs.Numbers.{refusalNumber}
+use Rattle.sheet.proofs.First.{accepted-passes, numbered}
 use Rattle.attribution.specs.Reckoning as attribution
 use Rattle.attribution.specs.Verdict.{reckonerChecks}
 use Rattle.report.specs.Report.{reportOf}
@@ -22,16 +22,16 @@ use Rattle.report.specs.Outcome.{sheetReport, spaceTooShort, allChecks, verdict
 use Rattle.report.proofs.Longest.{report-most, never-short}
 use Rattle.reckoner.specs.Reckoned.{FiguresOf, Reckoned}
 use Rattle.reckoner.specs.declared.Reckoning.{Reckoning}
-use Rattle.reckoner.proofs.AllLines.{first-rest, first-here}
-use Rattle.reckoner.proofs.Answer.{numbered}
-use Rattle.writer.specs.Given.{outcomeWithin}
-use Rattle.rows.specs.Held.{LONGEST, Sound, rowHeld, rowsHeld, reckoningHeld, bytesHeld}
+use Rattle.sheet.proofs.First.{first-rest, first-here}
+use Rattle.writer.specs.Given.{LONGEST}
+use Rattle.writer.specs.Within.{outcomeWithin}
+use Rattle.rows.specs.Held.{CanBeWritten, rowHeld, rowsHeld, reckoningHeld, bytesHeld}
 
 -- ---- the figures of an accepted sheet
 
 module _ (rs : List Record) (r : Reckoning) (f : FiguresOf rs r) where
-  pub sound : Sound r
-  sound = record {
+  pub can-be-written : CanBeWritten r
+  can-be-written = record {
     few = omega (arith, f .few);
     made = λ k l m. let e = f .outputs .at k l m in let h = f .made k l m in omega arith;
     small = λ k l m. let e = f .outputs .at k l m in let h = f .outputs-small k in omega arith;
@@ -91,7 +91,7 @@ module _ (sheet space : List ℕ) (r : Reckoning) (h : Reckoned sheet r) where
 
   refused-by : (refusalNumber (r .refusal) ≡ 0 → ⊥) → firstOf (reckonerChecks limits sheet) ≡ refused (refusalNumber (r .refusal)) (r .line)
   refused-by some =
-      numbered sheet (firstOf (reckonerChecks limits sheet)) (λ z. some (h .number ∙ z)) ∙ ap₂ refused (sym (h .number)) (sym (h .line-is))
+      numbered (firstOf (reckonerChecks limits sheet)) (λ z. some (h .number ∙ z)) ∙ ap₂ refused (sym (h .number)) (sym (h .line-is))
 
   pub printed-refusal : (refusalNumber (r .refusal) ≡ 0 → ⊥) → carbon limits sheet ≡ printed (refused (refusalNumber (r .refusal)) (r .line)) []
   unfolding carbon
@@ -128,5 +128,5 @@ module _ (sheet space : List ℕ) (r : Reckoning) (h : Reckoned sheet r) where
 
 -- ---- 16 is not given to a space of LONGEST bytes
 
-pub roomy : (sheet space : List ℕ) (given : Outcome) → given ≡ outcome limits sheet space → LONGEST ≤ length space → given .number ≡ 16 → ⊥
-roomy sheet space given e h n = never-short limits (omega arith) sheet space h (sym (ap (λ (o : Outcome). o .number) e) ∙ n)
+pub long-enough : (sheet space : List ℕ) (given : Outcome) → given ≡ outcome limits sheet space → LONGEST ≤ length space → given .number ≡ 16 → ⊥
+long-enough sheet space given e h n = never-short limits (omega arith) sheet space h (sym (ap (λ (o : Outcome). o .number) e) ∙ n)

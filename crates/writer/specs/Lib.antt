@@ -1,2 +1,3 @@
--- What the job gives.
+-- For the reader: Given. For the code only: Within.
 pub mod Given
+pub mod Within

@@ -7,12 +7,13 @@ ghost use Rattle.quantity.specs.Limits.{limits};
 ghost use Rattle.decimal.specs.Writing.{Put};
 ghost use Rattle.report.specs.Outcome.{outcome, printed, carbon};
 ghost use Rattle.sheet.specs.Verdict.{refused};
-ghost use Rattle.rows.specs.Held.{LONGEST, Sound, bytesHeld};
-ghost use Rattle.writer.specs.Given.{gives, outcomeWithin};
+ghost use Rattle.rows.specs.Held.{CanBeWritten, bytesHeld};
+ghost use Rattle.writer.specs.Given.{LONGEST, gives};
+ghost use Rattle.writer.specs.Within.{outcomeWithin};
+use checks::refusals::Refusal;
+use checks::refusals::refusal_number;
 use figures::put_byte;
 use figures::put_bytes;
-use judge::refusals::Refusal;
-use judge::refusals::refusal_number;
 use quantity::limits::PROCESSES;
 use reckoner::Reckoning;
 use reckoner::reckon;
@@ -57,7 +58,7 @@ pub struct Answer {
 
 // The report of an accepted sheet, in a space that may be too short: it is written apart, and so measured, before the space is touched.
 fn put_within(space: &mut [u8], r: Reckoning) -> Answer
-    requires { ⌜ (Sound r) × (length (bytesHeld r) ≤ LONGEST) ⌝ }
+    requires { ⌜ (CanBeWritten r) × (length (bytesHeld r) ≤ LONGEST) ⌝ }
     ensures { λ a. ⌜ gives a (now (space .exit)) ≡ outcomeWithin (bytesHeld r) (now (space .entry)) ⌝ }
 {
     let mut bytes = [0u8; LONGEST];
@@ -81,7 +82,7 @@ fn put_within(space: &mut [u8], r: Reckoning) -> Answer
 // short.
 pub fn report(sheet: &[u8], space: &mut [u8]) -> Answer
     ensures { λ a. ⌜ gives a (now (space .exit)) ≡ outcome limits (now (sheet .entry)) (now (space .entry)) ⌝ }
-    ensures roomy { λ a. ⌜ (LONGEST ≤ length (now (space .entry)) → a .number ≡ 16 → ⊥) ⌝ }
+    ensures long_enough { λ a. ⌜ (LONGEST ≤ length (now (space .entry)) → a .number ≡ 16 → ⊥) ⌝ }
 {
     let r = reckon(sheet);
     let refusal = r.refusal;
@@ -93,6 +94,7 @@ pub fn report(sheet: &[u8], space: &mut [u8]) -> Answer
             length: 0,
         };
     }
+    // At LONGEST itself either way gives the same report.
     if space.len() < LONGEST {
         return put_within(space, r);
     }

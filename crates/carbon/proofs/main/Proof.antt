@@ -5,12 +5,6 @@ use native.Mathlib.Omega.{arith}
 use lib.Seq.{length-take-le}
 use Rattle.carbon.proofs.main.Statement.{statement}
 use Rattle.carbon.proofs.main.Tie as tie
-use Rattle.carbon.proofs.main.Reads as reads
-use Rattle.carbon.proofs.main.Lts as lts
-use Rattle.io.proofs.read_full.Reads as read-full-reads
-use Rattle.io.proofs.write_all.Reads as write-all-reads
-use Rattle.libc.proofs.read.Reads as read-reads
-use Rattle.writer.proofs.print.Reads as print-reads
 
 slice-aggregate-read-full : tie.Need-slice-aggregate-read-full
 slice-aggregate-read-full c = search needs

@@ -3,8 +3,6 @@ use Prim.Native.Nat.{_≤_, _-_}
 use borrow.Author.Needs.{needs}
 use Rattle.cases.proofs.as_wanted.Statement.{statement}
 use Rattle.cases.proofs.as_wanted.Tie as tie
-use Rattle.cases.proofs.as_wanted.Reads as reads
-use Rattle.cases.proofs.as_wanted.Lts as lts
 
 abbrev Inv-loop : tie.InvT-loop
 Inv-loop space wanted length i₀ i = i ≤ 8192

@@ -8,12 +8,6 @@ use native.Mathlib.Omega.{arith}
 use lib.Seq.{length-take-le}
 use Rattle.cases.proofs.holds.Statement.{statement}
 use Rattle.cases.proofs.holds.Tie as tie
-use Rattle.cases.proofs.holds.Reads as reads
-use Rattle.cases.proofs.holds.Lts as lts
-use Rattle.cases.proofs.as_wanted.Reads as as-wanted-reads
-use Rattle.cases.proofs.number_at.Reads as number-at-reads
-use Rattle.io.proofs.read_full.Reads as read-full-reads
-use Rattle.writer.proofs.report.Reads as report-reads
 
 -- what is within the first part of a list is within the list
 within : (a b : List ℕ) (n : ℕ) → n ≤ length a → n ≤ length (a ++ b)

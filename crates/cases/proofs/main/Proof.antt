@@ -5,12 +5,6 @@ use lib.ListN.{length}
 use borrow.Author.Needs.{needs}
 use Rattle.cases.proofs.main.Statement.{statement}
 use Rattle.cases.proofs.main.Tie as tie
-use Rattle.cases.proofs.main.Reads as reads
-use Rattle.cases.proofs.main.Lts as lts
-use Rattle.cases.proofs.holds.Reads as holds-reads
-use Rattle.io.proofs.print_decimal.Reads as print-decimal-reads
-use Rattle.io.proofs.read_full.Reads as read-full-reads
-use Rattle.io.proofs.write_all.Reads as write-all-reads
 
 abbrev Inv-loop : tie.InvT-loop
 Inv-loop header₀ tried₀ different₀ t4 t5 header tried different = (length header ≡ 40) × (tried ≤ 100000) × (different ≤ tried)

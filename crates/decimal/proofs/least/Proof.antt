@@ -6,8 +6,6 @@ use native.Mathlib.Omega.{arith}
 use borrow.Author.Needs.{needs}
 use Rattle.decimal.proofs.least.Statement.{statement}
 use Rattle.decimal.proofs.least.Tie as tie
-use Rattle.decimal.proofs.least.Reads as reads
-use Rattle.decimal.proofs.least.Lts as lts
 
 below : (k m : ℕ) → k < suc m → (k ≡ m → ⊥) → k < m
 below k m h n =

@@ -10,9 +10,6 @@ use Rattle.decimal.proofs.Spelling.{spelling-some}
 use Rattle.decimal.proofs.Widths.{length-at-least}
 use Rattle.decimal.proofs.put.Statement.{statement}
 use Rattle.decimal.proofs.put.Tie as tie
-use Rattle.decimal.proofs.put.Reads as reads
-use Rattle.decimal.proofs.put.Lts as lts
-use Rattle.decimal.proofs.width.Reads as width-reads
 
 abbrev Inv-loop : tie.InvT-loop
 Inv-loop space₀ at n end place₀ left₀ space place left =

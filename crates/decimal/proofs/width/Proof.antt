@@ -5,9 +5,6 @@ use Rattle.decimal.proofs.Bits.{few-small, so-few, one-more}
 use borrow.Author.Needs.{needs}
 use Rattle.decimal.proofs.width.Statement.{statement}
 use Rattle.decimal.proofs.width.Tie as tie
-use Rattle.decimal.proofs.width.Reads as reads
-use Rattle.decimal.proofs.width.Lts as lts
-use Rattle.decimal.proofs.least.Reads as least-reads
 
 cast-bits : tie.Need-cast-bits
 cast-bits c = record { fits = omega (arith, leading-le 64 (c .args .n)) }

@@ -1,43 +1,52 @@
-use mathlib.Core.Path.{_∙_}
+-- `weigh_heat` meets its contract. Assumes nothing.
+use mathlib.Core.Path.{_≡_, refl, _∙_}
+use Prim.Native.Nat.{ℕ, _≤_}
+use native.Mathlib.Omega.{arith}
 use borrow.Author.Needs.{needs}
-use Rattle.entries.proofs.KindEntries.{HeatLine, heat-line}
+use lib.ListN.{length}
+use Rattle.lines.specs.Words.{WORDS}
+use Rattle.lines.specs.declared.LineRead.{LineRead}
+use Rattle.quantity.specs.Limits.{limits}
+use Rattle.quantity.specs.Weights.{weight}
+use Rattle.sheet.specs.Kinds.{MeasurableHeat, letter, rules}
+use Rattle.moves.specs.Moved.{heatMoved}
+use Rattle.entries.specs.Weighed.{heatOf}
+use Rattle.entries.specs.Entries.{entry}
+use Rattle.entries.specs.Read.{recordRead, LineKeeps}
+use Rattle.entries.proofs.Ranges.{in-rules, are-words}
+use Rattle.entries.proofs.OfKind.{w, kind-at, is-at, entry-at}
 use Rattle.entries.proofs.weigh_heat.Statement.{statement}
 use Rattle.entries.proofs.weigh_heat.Tie as tie
 
+-- `H,from,to,MJ,factor`
+pub record HeatLine (l : LineRead) : Type 0 where
+  pub ranges : (w l 2 ≤ 1000000000000) × (w l 3 ≤ 400000)
+  pub entry-is : {g : ℕ} → g ≡ weight (w l 2) (w l 3) → heatMoved (w l 0) (w l 1) g ≡ entry (recordRead l)
+
+heat-line : (l : LineRead) → length (l .words) ≡ WORDS → LineKeeps l → l .letter ≡ letter MeasurableHeat → HeatLine l
+unfolding rules heatOf
+heat-line l sized keeps e =
+    let k = kind-at l MeasurableHeat e in
+    let n = in-rules limits (recordRead l) (keeps .ranges) MeasurableHeat k in
+    let v = are-words l sized keeps MeasurableHeat k in
+    record {
+      ranges = (omega (arith, n .1 .1 .0 refl .high, v .1 .1 .0 refl), omega (arith, n .1 .1 .1 .0 refl .high, v .1 .1 .1 .0 refl));
+      entry-is = λ g. rw (g, ← v .0 refl, ← v .1 .0 refl, ← v .1 .1 .0 refl, ← v .1 .1 .1 .0 refl)
+          (rw (is-at l MeasurableHeat e) at (entry-at l MeasurableHeat e));
+    }
+
 line : (c : tie.Start) → HeatLine (c .args .t1)
-line c = heat-line (c .args .t1) (c .pre .0) (search needs) (c .pre .1 .0) (c .pre .1 .1)
-
-element-copy-out-heat-entry : tie.Need-element-copy-out-heat-entry
-element-copy-out-heat-entry c = search needs
-
-element-copy-out-heat-weight : tie.Need-element-copy-out-heat-weight
-element-copy-out-heat-weight c = search needs
+line c = heat-line (c .args .t1) (search needs) (c .pre .0) (c .pre .1)
 
 heat-weight-requires : tie.Need-heat-weight-requires
 heat-weight-requires c κs = line (c .before .before) .ranges
 
-element-copy-out-heat-entry-2 : tie.Need-element-copy-out-heat-entry-2
-element-copy-out-heat-entry-2 c = search needs
-
-element-copy-out-heat-entry-3 : tie.Need-element-copy-out-heat-entry-3
-element-copy-out-heat-entry-3 c = search needs
-
-heat-entry-requires : tie.Need-heat-entry-requires
-heat-entry-requires c κs = (line (c .before .before .before .before .before) .ends, c .before .before .heat-weight .ensures .1)
-
 returns : tie.Need-returns
 returns c =
     let k = c .before .before .before in
-    (c .heat-entry .ensures .0 ∙ line (k .before .before .before) .entry-is (k .heat-weight .ensures .0), c .heat-entry .ensures .1)
+    c .heat-entry .ensures ∙ line (k .before .before .before) .entry-is (k .heat-weight .ensures .0)
 
 pub weigh-heat-spec : {M : Type 1} → statement M
 weigh-heat-spec =
     tie.close
-    (tie.spec
-    element-copy-out-heat-entry
-    element-copy-out-heat-weight
-    heat-weight-requires
-    element-copy-out-heat-entry-2
-    element-copy-out-heat-entry-3
-    heat-entry-requires
-    returns)
+    (tie.spec (λ c. search needs) (λ c. search needs) heat-weight-requires (λ c. search needs) (λ c. search needs) (λ c κs. search needs) returns)

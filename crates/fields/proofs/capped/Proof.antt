@@ -1,3 +1,4 @@
+-- `capped` meets its contract. Assumes nothing.
 use native.Mathlib.Omega.{arith}
 use Rattle.fields.proofs.capped.Statement.{statement}
 use Rattle.fields.proofs.capped.Tie as tie

@@ -1,3 +1,4 @@
+-- `digits_said` meets its contract. Assumes nothing.
 use borrow.Author.Needs.{needs}
 use Rattle.fields.proofs.digits_said.Statement.{statement}
 use Rattle.fields.proofs.digits_said.Tie as tie

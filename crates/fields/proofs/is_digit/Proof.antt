@@ -1,3 +1,4 @@
+-- `is_digit` meets its contract. Assumes nothing.
 use borrow.Author.Tests.{lt-leb, le-leb}
 use Rattle.fields.proofs.is_digit.Statement.{statement}
 use Rattle.fields.proofs.is_digit.Tie as tie

@@ -1,8 +1,7 @@
+-- `is_leading` meets its contract. Assumes nothing.
 use borrow.Author.Tests.{lt-ltb, le-ltb}
 use Rattle.fields.proofs.is_leading.Statement.{statement}
 use Rattle.fields.proofs.is_leading.Tie as tie
-use Rattle.fields.proofs.is_leading.Reads as reads
-use Rattle.fields.proofs.is_leading.Lts as lts
 
 returns : tie.Need-returns
 returns c = simp (le-ltb _ _ (c .if1 .taken))

@@ -1,3 +1,4 @@
+-- `leading_digits` meets its contract. Assumes nothing.
 use mathlib.Core.Path.{_≡_, sym, _∙_}
 use mathlib.Core.Bool.{true}
 use Prim.Native.Nat.{ℕ, _+_, _-_, _*_, min, _<_}
@@ -10,13 +11,9 @@ use Rattle.fields.proofs.Scanning.{not-last, digit-range, none-scanned,
 use Rattle.fields.proofs.Short.{leading-range, leading-digit}
 use Rattle.fields.proofs.leading_digits.Statement.{statement}
 use Rattle.fields.proofs.leading_digits.Tie as tie
-use Rattle.fields.proofs.leading_digits.Reads as reads
-use Rattle.fields.proofs.leading_digits.Lts as lts
-use Rattle.fields.proofs.is_digit.Reads as is-digit-reads
-use Rattle.fields.proofs.wide.Reads as wide-reads
 
 abbrev Inv-loop : tie.InvT-loop
-Inv-loop s start value₀ end₀ value end = Scanning s start value true end × (end < length s) × (value < 1000000000000)
+Inv-loop s start value₀ end₀ value end = Scanning s start value true end × (end < length s) × (value < CAP)
 
 abbrev μ-loop : tie.MeasureT-loop
 μ-loop s start value₀ end₀ value end = length s - end
@@ -85,7 +82,8 @@ loop-again c =
     let s = c .before .before .before .before .before .before .before .before .before in
     let digit = sym (c .before .before .is-digit .ensures) ∙ c .before .if1 .taken in
     let d = digit-range (getD (s .args .s .now) (l .end) 0) digit in
-    let v : l .value * 10 + c .wide2 .result ≡ min (l .value * 10 + (getD (s .args .s .now) (l .end) 0 - 48)) CAP = omega (arith, t, c .wide2 .ensures, d .1) in (
+    let v : l .value * 10 + c .wide2 .result ≡ min (l .value * 10 + (getD (s .args .s .now) (l .end) 0 - 48)) CAP =
+    omega (arith, t, c .wide2 .ensures, d .1) in (
       rw v (digit-scanned _ _ _ _ _ (l .inv .0) (l .inv .1) digit),
       not-last (s .args .s .now) (l .end) (s .pre .0 .1) (l .inv .1) (λ e. omega arith),
       omega (arith, t, c .wide2 .ensures, d .1),

@@ -1,3 +1,4 @@
+-- `read_field` meets its contract. Assumes nothing.
 use borrow.Author.Needs.{needs}
 use Rattle.fields.proofs.Scanning.{done-none, done-dash, done-one, done-zero, done-many}
 use Rattle.fields.proofs.read_field.Statement.{statement}
@@ -37,7 +38,8 @@ digits-said-requires-2 c κs = search needs
 returns-5 : tie.Need-returns-5
 returns-5 c =
     let k = c .before .before in
-    done-many _ _ _ (k .before .before .before .scan-field .ensures) (k .before .before .if1 .left) (k .if2 .left) (c .before .if4 .left) _ (c .digits-said2 .ensures)
+    done-many _ _ _ (k .before .before .before .scan-field .ensures) (k .before .before .if1 .left) (k .if2 .left)
+    (c .before .if4 .left) _ (c .digits-said2 .ensures)
 
 pub read-field-spec : {M : Type 1} → statement M
 read-field-spec =

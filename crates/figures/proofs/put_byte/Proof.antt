@@ -5,8 +5,6 @@ use Rattle.decimal.proofs.Writing.{written-one}
 use borrow.Author.Needs.{needs}
 use Rattle.figures.proofs.put_byte.Statement.{statement}
 use Rattle.figures.proofs.put_byte.Tie as tie
-use Rattle.figures.proofs.put_byte.Reads as reads
-use Rattle.figures.proofs.put_byte.Lts as lts
 
 slice-write-space : tie.Need-slice-write-space
 slice-write-space c = search needs

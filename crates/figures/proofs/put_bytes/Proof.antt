@@ -11,8 +11,6 @@ use Rattle.decimal.specs.Writing.{Put}
 use Rattle.decimal.proofs.Writing.{written-one, then, put-none, put-kept}
 use Rattle.figures.proofs.put_bytes.Statement.{statement}
 use Rattle.figures.proofs.put_bytes.Tie as tie
-use Rattle.figures.proofs.put_bytes.Reads as reads
-use Rattle.figures.proofs.put_bytes.Lts as lts
 
 abbrev Inv-loop : tie.InvT-loop
 Inv-loop space₀ bytes n i₀ space i =

@@ -4,9 +4,6 @@ use Rattle.decimal.proofs.Writing.{then}
 use borrow.Author.Needs.{needs}
 use Rattle.figures.proofs.put_three.Statement.{statement}
 use Rattle.figures.proofs.put_three.Tie as tie
-use Rattle.figures.proofs.put_three.Reads as reads
-use Rattle.figures.proofs.put_three.Lts as lts
-use Rattle.figures.proofs.put_byte.Reads as put-byte-reads
 
 put-byte-requires : tie.Need-put-byte-requires
 put-byte-requires c κs = search needs

@@ -32,7 +32,7 @@ loop-holds c =
 
 -- in a turn: the kilograms taken so far are within the output
 taken-within : (h : tie.At-loop Inv-loop μ-loop) → h .loop .to < h .before .before .before .args .count
-    → h .loop .taken + pairs (h .before .before .before .args .kilos .now) (h .before .before .before .args .from) (h .loop .to + 1) ≤ h .before .before .before .args .output .0
+    → let s = h .before .before .before .args in h .loop .taken + pairs (s .kilos .now) (s .from) (h .loop .to + 1) ≤ s .output .0
 taken-within h l = taken-fits (h .loop .inv .2) (h .before .before .before .args .count) (h .before .before .before .pre .1 .1 .within) l
 
 add-to : tie.Need-add-to Inv-loop μ-loop
@@ -78,7 +78,8 @@ add-pools : tie.Need-add-pools Inv-loop μ-loop
 add-pools c =
     let h = c .before .before .before .before .before .before in
     let l = c .before .before .before .before .before .loop-test .taken in
-    record { fits = pool-fits (h .loop .inv .2) (share-is (c .before .before)) (h .before .before .before .args .from) refl (h .before .before .before .pre .1 .1) l }
+    let s = h .before .before .before in
+    record { fits = pool-fits (h .loop .inv .2) (share-is (c .before .before)) (s .args .from) refl (s .pre .1 .1) l }
 
 mul-pools-2 : tie.Need-mul-pools-2 Inv-loop μ-loop
 mul-pools-2 c = omega arith
@@ -108,7 +109,7 @@ sub-left c =
     omega (arith, given-fits (h .loop .inv .2) (h .before .before .before .args .count) (h .before .before .before .pre .1 .1 .within) (omega arith))
 
 returns : tie.Need-returns Inv-loop μ-loop
-returns c = let h = c .before in passing-all (h .loop .inv .2) (h .before .before .before .args .count) (omega arith)
+returns c = let h = c .before in let s = h .before .before .before .args in passing-all (h .loop .inv .2) (s .count) (s .from) refl (omega arith)
 
 pub pass-on-spec : {M : Type 1} → statement M
 pass-on-spec =

@@ -2,23 +2,23 @@
 -- are left. Assumes nothing.
 use Prim.Native.Nat.{_+_, _-_, _≤_}
 use mathlib.Core.Path.{_≡_, refl}
-use borrow.Author.Needs.{needs}
 use native.Mathlib.Omega.{arith}
-use Rattle.goods.specs.Settling.{SIZE, figures, pairs}
+use Rattle.goods.specs.ByProcess.{figures}
+use Rattle.goods.specs.Settling.{pairs}
 use Rattle.goods.proofs.Settling.{Settling, settling-none, settling-can, settling-next, settling-all}
 use Rattle.goods.proofs.settle.Statement.{statement}
 use Rattle.goods.proofs.settle.Tie as tie
 
 abbrev Inv-loop : tie.InvT-loop
 Inv-loop pools₀ lefts₀ kilos count outputs i₀ pools lefts i =
-    (1 ≤ i) × (i ≤ count + 1) × (Settling count (figures (outputs .0)) (pairs kilos) (figures pools₀) SIZE (i - 1) pools lefts)
+    (1 ≤ i) × (i ≤ count + 1) × (Settling count (figures (outputs .0)) (pairs kilos) (figures pools₀) (i - 1) pools lefts)
 
 abbrev μ-loop : tie.MeasureT-loop
 μ-loop pools₀ lefts₀ kilos count outputs i₀ pools lefts i = count + 1 - i
 
 loop-holds : tie.Need-loop-holds Inv-loop μ-loop
 loop-holds c =
-    (omega arith, omega arith, rw (c .pre .1 .1 .1) (settling-none _ _ _ _ SIZE (c .args .pools .now) (c .pre .1 .1 .0) (λ k. refl)))
+    (omega arith, omega arith, rw (c .pre .1 .1 .1) (settling-none _ _ _ _ (c .args .pools .now) (c .pre .1 .1 .0) (λ k. refl)))
 
 mul-output : tie.Need-mul-output Inv-loop μ-loop
 mul-output c = omega arith
@@ -30,7 +30,7 @@ pass-on-requires : tie.Need-pass-on-requires Inv-loop μ-loop
 pass-on-requires c κs =
     let h = c .before .before .before in (
       (omega arith, h .before .pre .0),
-      (h .loop .inv .2 .pools-size, settling-can (h .before .pre .1 .0) (h .loop .inv .2) (omega arith) (omega arith)),
+      (h .loop .inv .2 .pool .size, settling-can (h .before .pre .1 .0) (h .loop .inv .2) (omega arith) (omega arith)),
     )
 
 mul-lefts : tie.Need-mul-lefts Inv-loop μ-loop

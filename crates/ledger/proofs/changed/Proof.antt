@@ -1,12 +1,14 @@
 -- `ledger::changed` meets its contract: the figure and both steps fit 64 bits. Assumes nothing.
 use mathlib.Core.Path.{_≡_}
-use Prim.Native.Nat.{_≤_}
+use Prim.Native.Nat.{_+_, _≤_}
 use native.Mathlib.Omega.{arith}
 use borrow.Author.Needs.{needs}
 use lib.IntN.{ℤ, pos, natAbs, _+ℤ_, _-ℤ_}
 use mir.Syntax.{w64}
 use mir.Val.{toZ, ofZ}
 use mir.Facts.{toZ-pos}
+use Rattle.ledger.specs.Columns.{BEFORE_ENTRY}
+use Rattle.ledger.specs.Ledger.{STEP}
 use Rattle.ledger.proofs.Sizes.{sfits, kept, size-plus, size-minus}
 use Rattle.ledger.proofs.changed.Statement.{statement}
 use Rattle.ledger.proofs.changed.Tie as tie
@@ -27,7 +29,7 @@ module _ (c : tie.Start) where
   less : toZ w64 (c .args .less .0) ≡ pos (c .args .less .0)
   less = toZ-pos w64 (omega (arith, c .pre .1 .1))
 
-  sum-small : natAbs sum ≤ 9215000000000000000
+  sum-small : natAbs sum ≤ BEFORE_ENTRY + STEP + STEP
   sum-small = omega (arith, size-plus (c .args .held .0) (c .args .more .0), c .pre .0, c .pre .1 .0)
 
   sum-fits : natAbs sum ≤ 9223372036854775807
@@ -49,7 +51,9 @@ sub-t10 : tie.Need-sub-t10
 sub-t10 c = simp (held (c .before), more (c .before), less (c .before), kept (sum (c .before)) (sum-fits (c .before))) (sfits (outcome-fits (c .before)))
 
 returns : tie.Need-returns
-returns c = simp (held (c .before), more (c .before), less (c .before), kept (sum (c .before)) (sum-fits (c .before)), kept (outcome (c .before)) (outcome-fits (c .before)))
+returns c =
+    let s = c .before in
+    simp (held s, more s, less s, kept (sum s) (sum-fits s), kept (outcome s) (outcome-fits s))
 
 pub changed-spec : {M : Type 1} → statement M
 changed-spec = tie.close (tie.spec cast-t7 add-t8 cast-t9 sub-t10 returns)

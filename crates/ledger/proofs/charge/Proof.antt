@@ -1,14 +1,15 @@
 -- `ledger::charge` meets its contract. Assumes nothing.
 use mathlib.Core.Path.{_≡_, ap, _∙_}
 use mathlib.Core.List.{List}
-use Prim.Native.Nat.{_≤_}
+use Prim.Native.Nat.{_+_, _≤_}
 use native.Mathlib.Omega.{arith}
 use borrow.Author.Needs.{needs}
 use lib.IntN.{ℤ, pos, natAbs, _+ℤ_, _-ℤ_, +ℤ-idr}
 use lib.ListN.{getD, set}
 use mir.Syntax.{w64}
 use mir.Val.{toZ, ofZ}
-use Rattle.ledger.specs.Ledger.{chargedAndCredited}
+use Rattle.ledger.specs.Columns.{BEFORE_ENTRY}
+use Rattle.ledger.specs.Ledger.{STEP, chargedAndCredited}
 use Rattle.ledger.proofs.Sizes.{kept, size-plus, size-minus}
 use Rattle.ledger.proofs.Bounds.{each-charged}
 use Rattle.ledger.proofs.charge.Statement.{statement}
@@ -34,18 +35,18 @@ module _ (c : tie.Start) where
   held-fits : toZ w64 (ofZ w64 held) ≡ held
   held-fits = kept held (omega (arith, c .pre .0 (c .args .e .charged)))
 
-  more-small : natAbs more ≤ 9210000000000000000
+  more-small : natAbs more ≤ BEFORE_ENTRY + STEP
   more-small =
       omega (arith, size-plus held (c .args .e .charge .0), c .pre .0 (c .args .e .charged), c .pre .1 .moved)
 
   more-fits : toZ w64 (ofZ w64 more) ≡ more
   more-fits = kept more (omega (arith, more-small))
 
-  left-small : natAbs left ≤ 9210000000000000000
+  left-small : natAbs left ≤ BEFORE_ENTRY + STEP
   left-small =
       omega (
         arith,
-        each-charged 9200000000000000000 b (c .pre .0) (c .args .e .charged) (c .args .e .charge .0) (c .args .e .credited),
+        each-charged BEFORE_ENTRY b (c .pre .0) (c .args .e .charged) (c .args .e .charge .0) (c .args .e .credited),
         c .pre .1 .moved,
       )
 

@@ -1,22 +1,20 @@
+-- `enter` meets its contract. Assumes nothing.
 use mathlib.Core.Path.{_≡_}
-use Prim.Native.Nat.{_≤_}
 use native.Mathlib.Omega.{arith}
-use borrow.Author.Needs.{needs}
-use lib.IntN.{ℤ, pos, natAbs, _+ℤ_, _-ℤ_}
+use lib.IntN.{ℤ, pos, _+ℤ_, _-ℤ_}
 use mir.Syntax.{w64}
 use mir.Val.{toZ, ofZ}
 use Rattle.ledger.proofs.Sizes.{kept, size-plus, size-minus}
 use Rattle.ledger.proofs.enter.Statement.{statement}
 use Rattle.ledger.proofs.enter.Tie as tie
-use Rattle.ledger.proofs.enter.Reads as reads
-use Rattle.ledger.proofs.enter.Lts as lts
-use Rattle.ledger.proofs.changed.Reads as changed-reads
 
 held-fits : (c : tie.Start) → toZ w64 (ofZ w64 (c .args .entered .now)) ≡ c .args .entered .now
 held-fits c = kept _ (omega (arith, c .pre .0))
 
 changed-requires : tie.Need-changed-requires
-changed-requires c κs = rw (held-fits (c .before)) (omega (arith, c .before .pre .0), (omega (arith, c .before .pre .1 .entering), omega (arith, c .before .pre .1 .leaving)))
+changed-requires c κs =
+    let p = c .before .pre in
+    rw (held-fits (c .before)) (omega (arith, p .0), (omega (arith, p .1 .entering), omega (arith, p .1 .leaving)))
 
 returns : tie.Need-returns
 returns c =

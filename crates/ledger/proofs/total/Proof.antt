@@ -38,7 +38,8 @@ add-sum : tie.Need-add-sum Inv-loop μ-loop
 add-sum c =
     let k = c .before .before in
     let f : ℕ → ℕ = λ p. getD (k .before .args .a .now) p 0 in
-    record { fits = omega (arith, next (k .loop .done) f, sum-mono (k .loop .done + 1) (k .before .args .count) f (omega arith), k .loop .inv .1, k .before .pre .1) }
+    let most = sum-mono (k .loop .done + 1) (k .before .args .count) f (omega arith) in
+    record { fits = omega (arith, next (k .loop .done) f, most, k .loop .inv .1, k .before .pre .1) }
 
 loop-less : tie.Need-loop-less Inv-loop μ-loop
 loop-less c = search needs

@@ -1,3 +1,4 @@
+-- `gas_entry` meets its contract. Assumes nothing.
 use native.Mathlib.Omega.{arith}
 use borrow.Author.Needs.{needs}
 use Rattle.quantity.proofs.Weights.{credit-below-charge}
@@ -20,7 +21,7 @@ outside-requires-2 c κs = search needs
 between-requires : tie.Need-between-requires
 between-requires c κs =
     let k = c .before .before .before in
-    omega (arith, k .gas-charge .ensures .0, c .before .before .gas-credit .ensures .0, credit-below-charge (k .before .args .energy .0) (k .before .pre .1 .0))
+    omega (arith, k .gas-charge .ensures .0, c .before .before .gas-credit .ensures .0, credit-below-charge (k .before .args .energy .0) (k .before .pre .0))
 
 nothing-requires : tie.Need-nothing-requires
 nothing-requires c κs = search needs
@@ -29,11 +30,9 @@ returns : tie.Need-returns
 returns c =
     let k = c .before .before .before .before .before in
     let s = k .before .args in
-    rw (c .nothing .ensures .0) (
-      gas-amounts (s .from) (s .to) (k .gas-charge .ensures .0) (c .before .before .before .before .gas-credit .ensures .0)
-          (c .before .before .before .outside .ensures .0) (c .before .before .outside2 .ensures .0) (c .before .between .ensures .0),
-      search needs,
-    )
+    rw (c .nothing .ensures)
+    (gas-amounts (s .from) (s .to) (k .gas-charge .ensures .0) (c .before .before .before .before .gas-credit .ensures .0)
+    (c .before .before .before .outside .ensures) (c .before .before .outside2 .ensures) (c .before .between .ensures))
 
 pub gas-entry-spec : {M : Type 1} → statement M
 gas-entry-spec =

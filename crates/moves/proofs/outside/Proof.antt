@@ -1,5 +1,5 @@
+-- `outside` meets its contract. Assumes nothing.
 use mathlib.Core.Path.{sym}
-use borrow.Author.Needs.{needs}
 use borrow.Author.Tests.{eq-eqb, ne-eqb}
 use Rattle.goods.specs.Sums.{onlyAt}
 use Rattle.moves.proofs.outside.Statement.{statement}
@@ -7,11 +7,11 @@ use Rattle.moves.proofs.outside.Tie as tie
 
 returns : tie.Need-returns
 unfolding onlyAt
-returns c = (rw (eq-eqb 0 (c .before .args .end) (sym (c .if1 .taken))), search needs)
+returns c = rw (eq-eqb 0 (c .before .args .end) (sym (c .if1 .taken)))
 
 returns-2 : tie.Need-returns-2
 unfolding onlyAt
-returns-2 c = (rw (ne-eqb 0 (c .before .args .end) (λ e. c .if1 .left (sym e))), search needs)
+returns-2 c = rw (ne-eqb 0 (c .before .args .end) (λ e. c .if1 .left (sym e)))
 
 pub outside-spec : {M : Type 1} → statement M
 outside-spec = tie.close (tie.spec returns returns-2)

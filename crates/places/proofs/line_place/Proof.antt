@@ -1,3 +1,4 @@
+-- `line_place` meets its contract. Assumes nothing.
 use borrow.Author.Needs.{needs}
 use Rattle.places.proofs.NextLine.{place-none, place-past, place-of}
 use Rattle.places.proofs.line_place.Statement.{statement}

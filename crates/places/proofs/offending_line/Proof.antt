@@ -1,3 +1,4 @@
+-- `offending_line` meets its contract. Assumes nothing.
 use borrow.Author.Needs.{needs}
 use Rattle.places.proofs.NextLine.{place-bytes}
 use Rattle.places.proofs.offending_line.Statement.{statement}

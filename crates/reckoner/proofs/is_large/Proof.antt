@@ -1,10 +1,7 @@
+-- `is_large` meets its contract. Assumes nothing.
 use borrow.Author.Needs.{needs}
 use Rattle.reckoner.proofs.is_large.Statement.{statement}
 use Rattle.reckoner.proofs.is_large.Tie as tie
-use Rattle.reckoner.proofs.is_large.Reads as reads
-use Rattle.reckoner.proofs.is_large.Lts as lts
-use Rattle.reckoner.proofs.large_rows.Reads as large-rows-reads
-use Rattle.reckoner.proofs.large_totals.Reads as large-totals-reads
 
 large-rows-requires : tie.Need-large-rows-requires
 large-rows-requires c κs = search needs

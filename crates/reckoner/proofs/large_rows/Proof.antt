@@ -1,9 +1,7 @@
+-- `large_rows` meets its contract. Assumes nothing.
 use borrow.Author.Needs.{needs}
 use Rattle.reckoner.proofs.large_rows.Statement.{statement}
 use Rattle.reckoner.proofs.large_rows.Tie as tie
-use Rattle.reckoner.proofs.large_rows.Reads as reads
-use Rattle.reckoner.proofs.large_rows.Lts as lts
-use Rattle.closing.proofs.too_large.Reads as too-large-reads
 
 too-large-requires : tie.Need-too-large-requires
 too-large-requires c κs = search needs
@@ -28,13 +26,19 @@ too-large-requires-7 c κs = search needs
 
 returns : tie.Need-returns
 returns c =
+    let sixth = c .before .before .before in
+    let fifth = sixth .before .before .before in
+    let fourth = fifth .before .before .before in
+    let third = fourth .before .before .before in
+    let second = third .before .before .before in
+    let first = second .before .before .before in
     rw (
-      c .before .before .before .before .before .before .before .before .before .before .before .before .before .before .before .before .before .before .too-large .ensures,
-      c .before .before .before .before .before .before .before .before .before .before .before .before .before .before .before .too-large2 .ensures,
-      c .before .before .before .before .before .before .before .before .before .before .before .before .too-large3 .ensures,
-      c .before .before .before .before .before .before .before .before .before .too-large4 .ensures,
-      c .before .before .before .before .before .before .too-large5 .ensures,
-      c .before .before .before .too-large6 .ensures,
+      first .too-large .ensures,
+      second .too-large2 .ensures,
+      third .too-large3 .ensures,
+      fourth .too-large4 .ensures,
+      fifth .too-large5 .ensures,
+      sixth .too-large6 .ensures,
       c .too-large7 .ensures,
     )
 

@@ -1,3 +1,4 @@
+-- `comma_at` meets its contract. Assumes nothing.
 use borrow.Author.Tests.{lt-ltb, le-ltb}
 use borrow.Author.Needs.{needs}
 use Rattle.records.proofs.comma_at.Statement.{statement}

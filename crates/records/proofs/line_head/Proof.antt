@@ -1,3 +1,4 @@
+-- `line_head` meets its contract. Assumes nothing.
 use mathlib.Core.Path.{sym, ap₂, _∙_}
 use mathlib.Core.Bool.{Bool, false, cond}
 use Prim.Native.Nat.{_-_, _<_}
@@ -9,10 +10,6 @@ use Rattle.records.proofs.Fields.{letter-head, no-letter}
 use borrow.Author.Needs.{needs}
 use Rattle.records.proofs.line_head.Statement.{statement}
 use Rattle.records.proofs.line_head.Tie as tie
-use Rattle.records.proofs.line_head.Reads as reads
-use Rattle.records.proofs.line_head.Lts as lts
-use Rattle.records.proofs.any_head.Reads as any-head-reads
-use Rattle.records.proofs.kind_of.Reads as kind-of-reads
 
 sub-last : tie.Need-sub-last
 sub-last c = search needs
@@ -32,17 +29,14 @@ shared-slice-read-if2-2 c =
     let h : s .start < length (s .s .now) - 1 = ltb-true _ _ (and-both _ _ (c .before .before .if1 .taken) .0) in
     omega arith
 
-kind-of-requires : tie.Need-kind-of-requires
-kind-of-requires c κs = search needs
-
-add-t20 : tie.Need-add-t20
-add-t20 c = search needs
+add-t19 : tie.Need-add-t19
+add-t19 c = search needs
 
 returns : tie.Need-returns
 returns c =
-    let e = c .before .before .before .before .if1 .taken in
-    let f = c .before .if2 .taken in
-    rw (c .kind-of .ensures) record { is = letter-head _ _ e f; letter = sym (ap₂ (λ (p q : Bool). cond p q false) e f) }
+    let e = c .before .before .before .if1 .taken in
+    let f = c .if2 .taken in
+    record { is = letter-head _ _ e f; more = sym (ap₂ (λ (p q : Bool). cond p q false) e f) }
 
 any-head-requires : tie.Need-any-head-requires
 any-head-requires c κs = search needs
@@ -52,7 +46,7 @@ returns-2 c =
     let e = c .before .before .before .before .if1 .taken in
     let f = c .before .if2 .left in
     let k = c .any-head .ensures in
-    record { is = k .0; letter = k .1 ∙ sym (ap₂ (λ (p q : Bool). cond p q false) e f) }
+    record { is = k .0; more = k .1 ∙ sym (ap₂ (λ (p q : Bool). cond p q false) e f) }
 
 any-head-requires-2 : tie.Need-any-head-requires-2
 any-head-requires-2 c κs = search needs
@@ -61,7 +55,7 @@ returns-3 : tie.Need-returns-3
 returns-3 c =
     let k = c .any-head2 .ensures in
     let s = c .before .before .before .before .args in
-    record { is = k .0; letter = k .1 ∙ sym (no-letter (s .s .now) (s .start) (c .before .if1 .left)) }
+    record { is = k .0; more = k .1 ∙ sym (no-letter (s .s .now) (s .start) (c .before .if1 .left)) }
 
 pub line-head-spec : {M : Type 1} → statement M
 line-head-spec =
@@ -72,8 +66,7 @@ line-head-spec =
     shared-slice-read-if2
     add-if2
     shared-slice-read-if2-2
-    kind-of-requires
-    add-t20
+    add-t19
     returns
     any-head-requires
     returns-2

@@ -1,19 +1,18 @@
+-- `read_line` meets its contract. Assumes nothing.
 use native.Mathlib.Omega.{arith}
 use Rattle.records.proofs.Fields.{head-ahead, eight-read, so-far-all}
 use borrow.Author.Needs.{needs}
 use Rattle.records.proofs.read_line.Statement.{statement}
 use Rattle.records.proofs.read_line.Tie as tie
-use Rattle.records.proofs.read_line.Reads as reads
-use Rattle.records.proofs.read_line.Lts as lts
-use Rattle.records.proofs.line_head.Reads as line-head-reads
-use Rattle.records.proofs.next_field.Reads as next-field-reads
-use Rattle.records.proofs.read_on.Reads as read-on-reads
 
 line-head-requires : tie.Need-line-head-requires
 line-head-requires c κs = search needs
 
+no-step-requires : tie.Need-no-step-requires
+no-step-requires c κs = search needs
+
 next-field-requires : tie.Need-next-field-requires
-next-field-requires c κs = (head-ahead _ _ _ (c .line-head .ensures), omega arith)
+next-field-requires c κs = rw (c .no-step .ensures) (head-ahead _ _ _ (c .before .line-head .ensures), omega arith)
 
 next-field-requires-2 : tie.Need-next-field-requires-2
 next-field-requires-2 c κs = search needs
@@ -47,9 +46,9 @@ returns c =
     let b = k .before in
     let a = b .before in
     let w =
-    eight-read _ _ _ _ _ _ _ _ _ _ _ (a .before .line-head .ensures) (a .next-field .ensures .0) (b .next-field2 .ensures .0) (k .next-field3 .ensures .0)
-    (d .next-field4 .ensures .0) (e .next-field5 .ensures .0) (f .next-field6 .ensures .0) (g .next-field7 .ensures .0) (h .next-field8 .ensures .0)
-    (h .next-field8 .ensures .1 .1) in
+    eight-read _ _ _ _ _ _ _ _ _ _ _ _ (a .before .before .line-head .ensures) (a .before .no-step .ensures) (a .next-field .ensures .0)
+    (b .next-field2 .ensures .0) (k .next-field3 .ensures .0) (d .next-field4 .ensures .0) (e .next-field5 .ensures .0) (f .next-field6 .ensures .0)
+    (g .next-field7 .ensures .0) (h .next-field8 .ensures .0) (h .next-field8 .ensures .1 .1) in
     so-far-all _ _ _ (w .0) (w .1 (c .if1 .taken))
 
 read-on-requires : tie.Need-read-on-requires
@@ -62,9 +61,9 @@ read-on-requires c κs =
     let k = d .before in
     let b = k .before in
     let a = b .before in
-    eight-read _ _ _ _ _ _ _ _ _ _ _ (a .before .line-head .ensures) (a .next-field .ensures .0) (b .next-field2 .ensures .0) (k .next-field3 .ensures .0)
-    (d .next-field4 .ensures .0) (e .next-field5 .ensures .0) (f .next-field6 .ensures .0) (g .next-field7 .ensures .0) (h .next-field8 .ensures .0)
-    (h .next-field8 .ensures .1 .1) .0
+    eight-read _ _ _ _ _ _ _ _ _ _ _ _ (a .before .before .line-head .ensures) (a .before .no-step .ensures) (a .next-field .ensures .0)
+    (b .next-field2 .ensures .0) (k .next-field3 .ensures .0) (d .next-field4 .ensures .0) (e .next-field5 .ensures .0) (f .next-field6 .ensures .0)
+    (g .next-field7 .ensures .0) (h .next-field8 .ensures .0) (h .next-field8 .ensures .1 .1) .0
 
 returns-2 : tie.Need-returns-2
 returns-2 c = search needs
@@ -74,6 +73,7 @@ read-line-spec =
     tie.close
     (tie.spec
     line-head-requires
+    no-step-requires
     next-field-requires
     next-field-requires-2
     next-field-requires-3

@@ -1,3 +1,4 @@
+-- `read_on` meets its contract. Assumes nothing.
 use mathlib.Core.Bool.{true}
 use Prim.Native.Nat.{_-_, _<_}
 use native.Mathlib.Omega.{arith}
@@ -8,18 +9,13 @@ use Rattle.records.specs.Reading.{commaAt, ReadSoFar}
 use Rattle.records.proofs.Fields.{comma-in, so-far-all, so-far-more}
 use Rattle.records.proofs.read_on.Statement.{statement}
 use Rattle.records.proofs.read_on.Tie as tie
-use Rattle.records.proofs.read_on.Reads as reads
-use Rattle.records.proofs.read_on.Lts as lts
-use Rattle.fields.proofs.read_field.Reads as read-field-reads
-use Rattle.fields.proofs.word_of.Reads as word-of-reads
-use Rattle.records.proofs.comma_at.Reads as comma-at-reads
-use Rattle.records.proofs.store.Reads as store-reads
 
 abbrev Inv-loop : tie.InvT-loop
-Inv-loop s start kind words₀ count₀ end₀ words count end = ReadSoFar s start (record { kind = kind; count = count; words = words; end = end })
+Inv-loop s start letter words₀ count₀ end₀ words count end =
+    ReadSoFar s start (record { letter = letter; count = count; words = words; end = end })
 
 abbrev μ-loop : tie.MeasureT-loop
-μ-loop s start kind words₀ count₀ end₀ words count end = length s - end
+μ-loop s start letter words₀ count₀ end₀ words count end = length s - end
 
 loop-holds : tie.Need-loop-holds Inv-loop μ-loop
 loop-holds c = c .before .before .pre
@@ -28,10 +24,12 @@ comma-at-requires : tie.Need-comma-at-requires Inv-loop μ-loop
 comma-at-requires c κs = search needs
 
 -- a turn: a comma stands at end
-comma : (c : tie.Then1 Inv-loop μ-loop) → commaAt (c .before .before .before .before .before .args .s .now) (c .before .before .loop .end) ≡ true
+comma : (c : tie.Then1 Inv-loop μ-loop)
+    → commaAt (c .before .before .before .before .before .args .s .now) (c .before .before .loop .end) ≡ true
 comma c = sym (c .before .comma-at .ensures) ∙ c .if1 .taken
 
-inside : (c : tie.Then1 Inv-loop μ-loop) → c .before .before .loop .end < length (c .before .before .before .before .before .args .s .now)
+inside : (c : tie.Then1 Inv-loop μ-loop)
+    → c .before .before .loop .end < length (c .before .before .before .before .before .args .s .now)
 inside c = comma-in (c .before .before .before .before .before .args .s .now) (c .before .before .loop .end) (comma c)
 
 add-read-field : tie.Need-add-read-field Inv-loop μ-loop
@@ -47,10 +45,16 @@ store-requires : tie.Need-store-requires Inv-loop μ-loop
 store-requires c κs = tt
 
 add-count : tie.Need-add-count Inv-loop μ-loop
-add-count c = let l = c .before .before .before .before .before .before .loop .inv in let h = inside (c .before .before .before .before) in omega (arith, l .fits)
+add-count c =
+    let l = c .before .before .before .before .before .before .loop .inv in
+    let h = inside (c .before .before .before .before) in
+    omega (arith, l .fits)
 
 loop-less : tie.Need-loop-less Inv-loop μ-loop
-loop-less c = let h = inside (c .before .before .before .before) in let b = c .before .before .before .read-field .ensures .1 in omega (arith, b .least, b .most)
+loop-less c =
+    let h = inside (c .before .before .before .before) in
+    let b = c .before .before .before .read-field .ensures .1 in
+    omega (arith, b .least, b .most)
 
 loop-again : tie.Need-loop-again Inv-loop μ-loop
 loop-again c =

@@ -1,3 +1,4 @@
+-- `store` meets its contract. Assumes nothing.
 use borrow.Author.Tests.{lt-ltb, le-ltb}
 use borrow.Author.Needs.{needs}
 use Rattle.records.proofs.store.Statement.{statement}

@@ -5,10 +5,6 @@ use Rattle.decimal.proofs.Writing.{then}
 use Rattle.rows.proofs.Rows.{report-parts, report-long}
 use Rattle.rows.proofs.put_report.Statement.{statement}
 use Rattle.rows.proofs.put_report.Tie as tie
-use Rattle.rows.proofs.put_report.Reads as reads
-use Rattle.rows.proofs.put_report.Lts as lts
-use Rattle.rows.proofs.put_rows.Reads as put-rows-reads
-use Rattle.rows.proofs.put_totals.Reads as put-totals-reads
 
 put-rows-requires : tie.Need-put-rows-requires
 put-rows-requires c κs = search needs

@@ -4,9 +4,6 @@ use Rattle.rows.specs.Held.{fieldsOf}
 use borrow.Author.Needs.{needs}
 use Rattle.rows.proofs.row_fields.Statement.{statement}
 use Rattle.rows.proofs.row_fields.Tie as tie
-use Rattle.rows.proofs.row_fields.Reads as reads
-use Rattle.rows.proofs.row_fields.Lts as lts
-use Rattle.rows.proofs.specific_figure.Reads as specific-figure-reads
 
 specific-figure-requires : tie.Need-specific-figure-requires
 specific-figure-requires c κs = search needs

@@ -5,8 +5,6 @@ use native.Mathlib.Nat.{mod-lt}
 use Rattle.rows.proofs.Figures.{specific-parted}
 use Rattle.rows.proofs.specific_figure.Statement.{statement}
 use Rattle.rows.proofs.specific_figure.Tie as tie
-use Rattle.rows.proofs.specific_figure.Reads as reads
-use Rattle.rows.proofs.specific_figure.Lts as lts
 
 div-t5 : tie.Need-div-t5
 div-t5 c = search needs

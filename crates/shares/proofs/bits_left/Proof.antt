@@ -4,8 +4,6 @@ use borrow.Author.Needs.{needs}
 use Rattle.shares.proofs.LongDivision.{zeros-few, highest-one, highest-all, highest-some}
 use Rattle.shares.proofs.bits_left.Statement.{statement}
 use Rattle.shares.proofs.bits_left.Tie as tie
-use Rattle.shares.proofs.bits_left.Reads as reads
-use Rattle.shares.proofs.bits_left.Lts as lts
 
 add-zeros : tie.Need-add-zeros
 add-zeros c = record { fits = omega (arith, zeros-few (c .args .pool) (c .args .part) (c .fits .pool .fits) (c .fits .part .fits)) }

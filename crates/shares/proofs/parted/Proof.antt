@@ -5,8 +5,6 @@ use native.Mathlib.Omega.{arith}
 use Rattle.shares.proofs.LongDivision.{divided}
 use Rattle.shares.proofs.parted.Statement.{statement}
 use Rattle.shares.proofs.parted.Tie as tie
-use Rattle.shares.proofs.parted.Reads as reads
-use Rattle.shares.proofs.parted.Lts as lts
 
 div-t3 : tie.Need-div-t3
 div-t3 c = search needs

@@ -5,9 +5,6 @@ use borrow.Author.Needs.{needs}
 use Rattle.shares.proofs.LongDivision.{by-rest, times-small}
 use Rattle.shares.proofs.parted_share.Statement.{statement}
 use Rattle.shares.proofs.parted_share.Tie as tie
-use Rattle.shares.proofs.parted_share.Reads as reads
-use Rattle.shares.proofs.parted_share.Lts as lts
-use Rattle.shares.proofs.walked.Reads as walked-reads
 
 -- the quotient is no more than the pool
 small : (s : tie.Start)

@@ -2,10 +2,6 @@
 use borrow.Author.Needs.{needs}
 use Rattle.shares.proofs.share.Statement.{statement}
 use Rattle.shares.proofs.share.Tie as tie
-use Rattle.shares.proofs.share.Reads as reads
-use Rattle.shares.proofs.share.Lts as lts
-use Rattle.shares.proofs.parted.Reads as parted-reads
-use Rattle.shares.proofs.parted_share.Reads as parted-share-reads
 
 parted-requires : tie.Need-parted-requires
 parted-requires c κs = search needs

@@ -49,23 +49,36 @@ cast-with-bit c = omega (arith, c .before .loop .inv .0)
 shr-with-bit : tie.Need-shr-with-bit Inv-loop μ-loop
 shr-with-bit c = omega (arith, c .before .before .loop .inv .0)
 
+abbrev start : tie.At-loop Inv-loop μ-loop → tie.Start Inv-loop μ-loop
+start l = l .before .before .before .before .before .before
+
+abbrev pool : tie.At-loop Inv-loop μ-loop → ℕ
+pool l = start l .args .pool .0
+
+abbrev part : tie.At-loop Inv-loop μ-loop → ℕ
+part l = start l .args .part .0
+
+abbrev dividend : tie.At-loop Inv-loop μ-loop → ℕ
+dividend l = l .loop .d .quotient * start l .args .whole .0 + l .loop .d .remainder
+
 -- after the turn: the bits of the pool from i - 1 up
-turned : (c : tie.In-loop Inv-loop μ-loop)
-    → (c .before .loop .d .quotient * c .before .before .before .before .before .before .before .args .whole .0 + c .before .loop .d .remainder) * 2
-    + bitAnd (c .before .before .before .before .before .before .before .args .pool .0 / 2 ^ (c .before .loop .i - 1)) 1 * c .before .before .before .before .before .before .before .args .part .0
-    ≡ c .before .before .before .before .before .before .before .args .pool .0 / 2 ^ (c .before .loop .i - 1) * c .before .before .before .before .before .before .before .args .part .0
+turned : (c : tie.In-loop Inv-loop μ-loop) → let l = c .before in
+    dividend l * 2 + bitAnd (pool l / 2 ^ (l .loop .i - 1)) 1 * part l ≡ pool l / 2 ^ (l .loop .i - 1) * part l
 turned c =
-    let s = c .before .before .before .before .before .before .before .args in
-    let j : ℕ = c .before .loop .i - 1 in
-    let e : c .before .loop .i ≡ j + 1 = omega arith in
-    next (s .pool .0) (s .part .0) j _ (c .before .loop .inv .1 ∙ ap (λ (n : ℕ). s .pool .0 / 2 ^ n * s .part .0) e)
+    let l = c .before in
+    let j : ℕ = l .loop .i - 1 in
+    let e : l .loop .i ≡ j + 1 = omega arith in
+    next (pool l) (part l) j _ (l .loop .inv .1 ∙ ap (λ (n : ℕ). pool l / 2 ^ n * part l) e)
 
 with-bit-requires : tie.Need-with-bit-requires Inv-loop μ-loop
 with-bit-requires c κs =
-    let s = c .before .before .before .before .before .before .before .before in
-    let l = c .before .before .loop in (
-      s .pre,
-      ((bit-small (s .args .pool .0) (l .i - 1), l .inv .2), rw (turned (c .before)) (room (s .args .pool .0) (l .i - 1) (c .struct-known5 .given .0 .fits) (s .pre))),
+    let l = c .before .before in
+    let j : ℕ = l .loop .i - 1 in (
+      start l .pre,
+      (
+        (bit-small (pool l) j, l .loop .inv .2),
+        rw (turned (c .before)) (room (pool l) j (c .struct-known5 .given .0 .fits) (start l .pre)),
+      ),
     )
 
 loop-less : tie.Need-loop-less Inv-loop μ-loop
@@ -76,10 +89,14 @@ loop-again c = (omega (arith, c .before .before .before .loop .inv .0), c .with-
 
 returns : tie.Need-returns Inv-loop μ-loop
 returns c =
-    let s = c .before .before .before .before .before .before .before in
+    let s = start (c .before) in
     let l = c .before .loop in
-    let e = done (l .d .quotient) (l .d .remainder) (s .args .pool .0) (s .args .part .0) (s .args .whole .0) (let z : l .i ≡ 0 = omega arith in z) (l .inv .1) (l .inv .2) in
-    (e, le-trans (le-of-eq e) (share-small (s .args .pool .0) (s .args .part .0) (s .args .whole .0) (s .pre .within)))
+    let P : ℕ = s .args .pool .0 in
+    let C : ℕ = s .args .part .0 in
+    let A : ℕ = s .args .whole .0 in
+    let z : l .i ≡ 0 = omega arith in
+    let e = done (l .d .quotient) (l .d .remainder) P C A z (l .inv .1) (l .inv .2) in
+    (e, le-trans (le-of-eq e) (share-small P C A (s .pre .within)))
 
 pub walked-spec : {M : Type 1} → statement M
 walked-spec =

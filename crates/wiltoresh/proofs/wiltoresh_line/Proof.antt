@@ -1,9 +1,7 @@
+-- `wiltoresh_line` meets its contract. Assumes nothing.
 use borrow.Author.Needs.{needs}
 use Rattle.wiltoresh.proofs.wiltoresh_line.Statement.{statement}
 use Rattle.wiltoresh.proofs.wiltoresh_line.Tie as tie
-use Rattle.wiltoresh.proofs.wiltoresh_line.Reads as reads
-use Rattle.wiltoresh.proofs.wiltoresh_line.Lts as lts
-use Rattle.places.proofs.line_place.Reads as line-place-reads
 
 line-place-requires : tie.Need-line-place-requires
 line-place-requires c κs = search needs

@@ -1,9 +1,7 @@
+-- `wiltoresh_report` meets its contract. Assumes nothing.
 use borrow.Author.Needs.{needs}
 use Rattle.wiltoresh.proofs.wiltoresh_report.Statement.{statement}
 use Rattle.wiltoresh.proofs.wiltoresh_report.Tie as tie
-use Rattle.wiltoresh.proofs.wiltoresh_report.Reads as reads
-use Rattle.wiltoresh.proofs.wiltoresh_report.Lts as lts
-use Rattle.writer.proofs.report.Reads as report-reads
 
 report-requires : tie.Need-report-requires
 report-requires c κs = search needs

@@ -2,15 +2,9 @@
 use borrow.Author.Needs.{needs}
 use mathlib.Core.Path.{sym, _∙_}
 use native.Mathlib.Omega.{arith}
-use Rattle.writer.proofs.Job.{sound, report-short, printed-refusal, printed-report}
+use Rattle.writer.proofs.Job.{can-be-written, report-short, printed-refusal, printed-report}
 use Rattle.writer.proofs.print.Statement.{statement}
 use Rattle.writer.proofs.print.Tie as tie
-use Rattle.writer.proofs.print.Reads as reads
-use Rattle.writer.proofs.print.Lts as lts
-use Rattle.reckoner.proofs.reckon.Reads as reckon-reads
-use Rattle.judge.proofs.refusals.refusal_number.Reads as refusal-number-reads
-use Rattle.writer.proofs.put_refusal.Reads as put-refusal-reads
-use Rattle.rows.proofs.put_report.Reads as put-report-reads
 
 reckon-requires : tie.Need-reckon-requires
 reckon-requires c κs = search needs
@@ -28,8 +22,10 @@ returns : tie.Need-returns
 returns c =
     let k = c .before .before .before .before .before in
     let number = k .refusal-number .ensures in
-    let e = printed-refusal _ (c .before .before .before .before .before .before .before .before .before .args .space .now) _ (k .before .reckon .ensures .0) (λ z. c .before .before .before .before .if1 .taken (number ∙ z)) in
-    (rw e (rw number at (c .before .before .put-refusal .ensures .0)), c .before .before .put-refusal .ensures .1)
+    let some = c .before .before .before .before .if1 .taken in
+    let before = k .before .before .before .before .args .space .now in
+    let put = c .before .before .put-refusal .ensures in
+    (rw (printed-refusal _ before _ (k .before .reckon .ensures .0) (λ z. some (number ∙ z))) (rw number at (put .0)), put .1)
 
 put-report-requires : tie.Need-put-report-requires
 put-report-requires c κs =
@@ -37,7 +33,7 @@ put-report-requires c κs =
     let zero = sym (k .refusal-number .ensures) ∙ c .before .if1 .left in
     let answer = k .before .reckon .ensures .0 in
     let start = k .before .before .before .before in
-    (sound _ _ (answer .figured zero), omega (arith, report-short _ (start .args .space .now) _ answer zero, start .pre))
+    (can-be-written _ _ (answer .figured zero), omega (arith, report-short _ (start .args .space .now) _ answer zero, start .pre))
 
 same-length-2 : tie.Need-same-length-2
 same-length-2 c = search needs

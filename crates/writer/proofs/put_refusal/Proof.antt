@@ -9,10 +9,6 @@ use Rattle.decimal.proofs.Widths.{twenty}
 use Rattle.decimal.proofs.Writing.{then}
 use Rattle.writer.proofs.put_refusal.Statement.{statement}
 use Rattle.writer.proofs.put_refusal.Tie as tie
-use Rattle.writer.proofs.put_refusal.Reads as reads
-use Rattle.writer.proofs.put_refusal.Lts as lts
-use Rattle.decimal.proofs.put.Reads as put-reads
-use Rattle.figures.proofs.put_byte.Reads as put-byte-reads
 
 number-short : (s : tie.Start) → length (spelling (s .args .number)) ≤ 20
 number-short s = twenty (s .args .number) (s .fits .number .fits)
@@ -31,17 +27,22 @@ put-byte-requires c κs =
 
 put-requires-2 : tie.Need-put-requires-2
 put-requires-2 c κs =
-    let s = c .before .before .before .before .before .before .before .before .before .before in
-    let n = c .before .before .before .before .before .before .before .put in
-    let b = c .before .before .before .put-byte in
+    let comma = c .before .before .before in
+    let number = comma .before .before .before .before in
+    let s = number .before .before .before in
+    let n = number .put in
+    let b = comma .put-byte in
     omega (arith, number-short s, line-short s, s .pre, n .ensures .place, n .kept .0, b .ensures .place, b .kept .0)
 
 put-byte-requires-2 : tie.Need-put-byte-requires-2
 put-byte-requires-2 c κs =
-    let s = c .before .before .before .before .before .before .before .before .before .before .before .before .before .before in
-    let n = c .before .before .before .before .before .before .before .before .before .before .before .put in
-    let b = c .before .before .before .before .before .before .before .put-byte in
-    let l = c .before .before .before .put2 in
+    let line = c .before .before .before in
+    let comma = line .before .before .before .before in
+    let number = comma .before .before .before .before in
+    let s = number .before .before .before in
+    let n = number .put in
+    let b = comma .put-byte in
+    let l = line .put2 in
     omega (arith, number-short s, line-short s, s .pre, n .ensures .place, n .kept .0, b .ensures .place, b .kept .0, l .ensures .place, l .kept .0)
 
 same-length : tie.Need-same-length
@@ -49,16 +50,20 @@ same-length c = search needs
 
 returns : tie.Need-returns
 returns c =
-    let s = c .before .before .before .before .before .before .before .before .before .before .before .before .before .before .before .before .before in
-    let n = c .before .before .before .before .before .before .before .before .before .before .before .before .before .before .put .ensures in
-    let b = c .before .before .before .before .before .before .before .before .before .before .put-byte .ensures in
-    let l = c .before .before .before .before .before .before .put2 .ensures in
-    let number = spelling (s .args .number) in
-    let line = spelling (s .args .line) in
+    let line = c .before .before .before .before .before .before in
+    let comma = line .before .before .before .before in
+    let number = comma .before .before .before .before in
+    let s = number .before .before .before in
+    let n = number .put .ensures in
+    let b = comma .put-byte .ensures in
+    let l = line .put2 .ensures in
+    let f = c .before .before .put-byte2 .ensures in
+    let upto-comma = length-append (spelling (s .args .number)) (44 ∷ []) in
+    let upto-line = length-append (spelling (s .args .number) ++ (44 ∷ [])) (spelling (s .args .line)) in
     let a = then (omega (arith, number-short s, s .pre)) n b in
-    let d = then (omega (arith, number-short s, s .pre, length-append number (44 ∷ []))) a l in
-    let e = then (omega (arith, number-short s, line-short s, s .pre, length-append number (44 ∷ []), length-append (number ++ (44 ∷ [])) line)) d (c .before .before .put-byte2 .ensures) in
-    (simp append-assoc at e, omega (arith, number-short s, line-short s, n .place, b .place, l .place, c .before .before .put-byte2 .ensures .place))
+    let d = then (omega (arith, number-short s, s .pre, upto-comma)) a l in
+    let e = then (omega (arith, number-short s, line-short s, s .pre, upto-comma, upto-line)) d f in
+    (simp append-assoc at e, omega (arith, number-short s, line-short s, n .place, b .place, l .place, f .place))
 
 pub put-refusal-spec : {M : Type 1} → statement M
 put-refusal-spec =

@@ -6,11 +6,6 @@ use Rattle.writer.proofs.Job.{short-within, written-within, copied}
 use borrow.Author.Needs.{needs}
 use Rattle.writer.proofs.put_within.Statement.{statement}
 use Rattle.writer.proofs.put_within.Tie as tie
-use Rattle.writer.proofs.put_within.Reads as reads
-use Rattle.writer.proofs.put_within.Lts as lts
-use Rattle.figures.proofs.put_bytes.Reads as put-bytes-reads
-use Rattle.judge.proofs.refusals.refusal_number.Reads as refusal-number-reads
-use Rattle.rows.proofs.put_report.Reads as put-report-reads
 
 slice-aggregate-put-report : tie.Need-slice-aggregate-put-report
 slice-aggregate-put-report c = search needs
@@ -23,9 +18,10 @@ refusal-number-requires c κs = search needs
 
 returns : tie.Need-returns
 returns c =
-    let put = c .before .before .before .put-report .ensures in
-    let start = c .before .before .before .before .before .before in
-    rw (c .refusal-number .ensures) (short-within (bytesHeld (start .args .r)) (start .args .space .now) (omega (arith, start-place put, c .before .if1 .taken)))
+    let written = c .before .before .before in
+    let put = written .put-report .ensures in
+    let s = written .before .before .before .args in
+    rw (c .refusal-number .ensures) (short-within (bytesHeld (s .r)) (s .space .now) (omega (arith, start-place put, c .before .if1 .taken)))
 
 slice-aggregate-put-bytes : tie.Need-slice-aggregate-put-bytes
 slice-aggregate-put-bytes c = search needs
@@ -38,9 +34,11 @@ same-length c = search needs
 
 returns-2 : tie.Need-returns-2
 returns-2 c =
-    let put = c .before .before .before .before .before .before .before .put-report .ensures in
-    let start = c .before .before .before .before .before .before .before .before .before .before in
-    written-within (bytesHeld (start .args .r)) (start .args .space .now) (omega (arith, start-place put, c .before .before .before .before .before .if1 .left)) (copied put (c .before .before .put-bytes .ensures))
+    let written = c .before .before .before .before .before .before .before in
+    let put = written .put-report .ensures in
+    let s = written .before .before .before .args in
+    written-within (bytesHeld (s .r)) (s .space .now) (omega (arith, start-place put, c .before .before .before .before .before .if1 .left))
+    (copied put (c .before .before .put-bytes .ensures))
 
 pub put-within-spec : {M : Type 1} → statement M
 put-within-spec =

@@ -6,22 +6,16 @@ use native.Mathlib.Omega.{arith}
 use lib.ListN.{length}
 use Rattle.quantity.specs.Limits.{limits}
 use Rattle.report.specs.Outcome.{Outcome, outcome}
-use Rattle.rows.specs.Held.{LONGEST}
-use Rattle.writer.proofs.Job.{sound, report-short, refused-outcome, written-within, accepted-within, roomy}
+use Rattle.writer.specs.Given.{LONGEST}
+use Rattle.writer.proofs.Job.{can-be-written, report-short, refused-outcome, written-within, accepted-within, long-enough}
 use borrow.Author.Needs.{needs}
 use Rattle.writer.proofs.report.Statement.{statement}
 use Rattle.writer.proofs.report.Tie as tie
-use Rattle.writer.proofs.report.Reads as reads
-use Rattle.writer.proofs.report.Lts as lts
-use Rattle.reckoner.proofs.reckon.Reads as reckon-reads
-use Rattle.judge.proofs.refusals.refusal_number.Reads as refusal-number-reads
-use Rattle.rows.proofs.put_report.Reads as put-report-reads
-use Rattle.writer.proofs.put_within.Reads as put-within-reads
 
 -- both clauses from the first
 promised : (sheet space : List ℕ) (given : Outcome) → given ≡ outcome limits sheet space
     → (given ≡ outcome limits sheet space) × (LONGEST ≤ length space → given .number ≡ 16 → ⊥)
-promised sheet space given e = (e, roomy sheet space given e)
+promised sheet space given e = (e, long-enough sheet space given e)
 
 reckon-requires : tie.Need-reckon-requires
 reckon-requires c κs = search needs
@@ -40,7 +34,7 @@ put-within-requires c κs =
     let zero = sym (k .refusal-number .ensures) ∙ c .before .before .if1 .left in
     let answer = k .before .reckon .ensures .0 in
     let short = report-short _ (k .before .before .before .before .args .space .now) _ answer zero in
-    (sound _ _ (answer .figured zero), short)
+    (can-be-written _ _ (answer .figured zero), short)
 
 same-length : tie.Need-same-length
 same-length c = search needs
@@ -57,7 +51,7 @@ put-report-requires c κs =
     let zero = sym (k .refusal-number .ensures) ∙ c .before .before .if1 .left in
     let answer = k .before .reckon .ensures .0 in
     let short = report-short _ (k .before .before .before .before .args .space .now) _ answer zero in
-    (sound _ _ (answer .figured zero), omega (arith, short, c .before .if2 .left))
+    (can-be-written _ _ (answer .figured zero), omega (arith, short, c .before .if2 .left))
 
 same-length-2 : tie.Need-same-length-2
 same-length-2 c = search needs

@@ -1,3 +1,4 @@
+-- `given_b` meets its contract. Assumes nothing.
 use borrow.Author.Tests.{eq-eqb, ne-eqb}
 use borrow.Author.Needs.{needs}
 use Rattle.lines.specs.Words.{DASH}

@@ -16,7 +16,9 @@ round-thousandths-requires-2 : tie.Need-round-thousandths-requires-2
 round-thousandths-requires-2 c κs = omega (arith, mul-le-mul (t1-small c) (c .before .pre .factor))
 
 fossil-requires : tie.Need-fossil-requires
-fossil-requires c κs = (omega (arith, mul-le-mul (t1-small (c .before)) (c .before .before .pre .factor)), (c .before .before .pre .oxidation, c .before .before .pre .biomass))
+fossil-requires c κs =
+    let p = c .before .before .pre in
+    (omega (arith, mul-le-mul (t1-small (c .before)) (p .factor)), (p .oxidation, p .biomass))
 
 returns : tie.Need-returns
 unfolding combustionGrams

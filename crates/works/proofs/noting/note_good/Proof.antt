@@ -1,9 +1,8 @@
+-- `note_good` meets its contract. Assumes nothing.
 use mathlib.Core.Path.{refl}
 use borrow.Author.Needs.{needs}
 use Rattle.works.proofs.noting.note_good.Statement.{statement}
 use Rattle.works.proofs.noting.note_good.Tie as tie
-use Rattle.works.proofs.noting.note_good.Reads as reads
-use Rattle.works.proofs.noting.note_good.Lts as lts
 
 array-read-from : tie.Need-array-read-from
 array-read-from c = search needs

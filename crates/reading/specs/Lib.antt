@@ -1,0 +1,2 @@
+-- For the code only: Gathered.
+pub mod Gathered

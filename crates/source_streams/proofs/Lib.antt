@@ -1,0 +1,2 @@
+-- Laws of a source stream's methods.
+pub mod Methods
