@@ -9,13 +9,13 @@ use goods::GramsByProcess;
 use goods::KilosByPair;
 use goods::KilosByProcess;
 use goods::SIZE;
-use goods::settle;
 use ledger::Ledger;
 use ledger::add_all;
 use ledger::raise_all;
 use ledger::total;
 use quantity::Grams;
 use quantity::limits::WHOLE_GRAMS;
+use settling::settle;
 
 // Grams of each process by its number, and the totals `left` and `raised` of the works.
 pub struct Closing {

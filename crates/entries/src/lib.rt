@@ -20,7 +20,7 @@ fn weigh_stream(l: LineRead) -> Entry
     let code = l.words[2];
     let a = given::given_a(method, code, l.words[4]);
     let b = given::given_b(code, l.words[5]);
-    let grams = quantity::streams::stream(method, Kilos(l.words[3]), a, b, l.words[6], l.words[7]);
+    let grams = grams::streams::stream(method, Kilos(l.words[3]), a, b, l.words[6], l.words[7]);
     moves::stream_entry(l.words[0] as usize, grams)
 }
 
@@ -30,7 +30,7 @@ fn weigh_heat(l: LineRead) -> Entry
     requires { ⌜ l .letter ≡ letter MeasurableHeat ⌝ }
     ensures { λ r. ⌜ r ≡ entry (recordRead l) ⌝ }
 {
-    let weight = quantity::weighing::heat_weight(Megajoules(l.words[2]), l.words[3]);
+    let weight = grams::weighing::heat_weight(Megajoules(l.words[2]), l.words[3]);
     moves::heat_entry(l.words[0] as usize, l.words[1] as usize, weight)
 }
 
@@ -53,7 +53,7 @@ fn weigh_electricity(l: LineRead) -> Entry
     requires { ⌜ l .letter ≡ letter Electricity ⌝ }
     ensures { λ r. ⌜ r ≡ entry (recordRead l) ⌝ }
 {
-    let weight = quantity::weighing::electricity_weight(l.words[2], l.words[3]);
+    let weight = grams::weighing::electricity_weight(l.words[2], l.words[3]);
     moves::electricity_entry(l.words[0] as usize, l.words[1] as usize, weight)
 }
 
@@ -63,8 +63,8 @@ fn weigh_bought(l: LineRead) -> Entry
     requires { ⌜ l .letter ≡ letter BoughtPrecursor ⌝ }
     ensures { λ r. ⌜ r ≡ entry (recordRead l) ⌝ }
 {
-    let direct = quantity::weighing::precursor_weight(Kilos(l.words[1]), l.words[2]);
-    let indirect = quantity::weighing::precursor_weight(Kilos(l.words[1]), l.words[3]);
+    let direct = grams::weighing::precursor_weight(Kilos(l.words[1]), l.words[2]);
+    let indirect = grams::weighing::precursor_weight(Kilos(l.words[1]), l.words[3]);
     moves::bought_entry(l.words[0] as usize, direct, indirect)
 }
 

@@ -13,9 +13,6 @@ use Rattle.fields.specs.declared.Said.{Said}
 use Rattle.fields.specs.declared.Said.the-variants.{Number, Dash, Other}
 use Rattle.fields.specs.declared.FieldRead.{FieldRead}
 use Rattle.fields.specs.declared.Scanned.{Scanned}
-use Rattle.fields.specs.declared.Digits.{Digits}
-use Rattle.fields.specs.declared.ShortRead.{ShortRead}
-use Rattle.fields.specs.declared.ShortRead.the-variants.{Next, Last, Another}
 
 -- how many bytes stand before the first comma or LF: all of them where there is none
 unfoldable pub fieldLength : List ℕ → ℕ
@@ -79,34 +76,3 @@ pub record FieldBounds (sheet : List ℕ) (start : ℕ) (f : FieldRead) : Type 0
 -- the sheet's last byte is LF
 abbrev pub EndsInLF : (sheet : List ℕ) → Type 0
 EndsInLF sheet = getD sheet (length sheet - 1) 0 ≡ LF
-
--- `1` to `9`
-abbrev pub isLeading : (byte : ℕ) → Bool
-isLeading byte = ltb 48 byte && leb byte 57
-
--- a value below this stays below CAP with one digit more
-abbrev pub SHORT : ℕ
-SHORT = 100000000000000
-
--- digits that a field starts with, and that one more would ask for the cap or is none
-pub record DigitsAt (sheet : List ℕ) (start : ℕ) (d : Digits) : Type 0 where
-  pub scanned : Scanning sheet start (d .value) true (d .end)
-  pub inside : d .end < length sheet
-  pub below : d .value < CAP
-  pub stops : d .value < SHORT → isDigit (getD sheet (d .end) 0) ≡ false
-
--- a word whose field ends before this byte, if it is a comma or LF
-abbrev pub endedWord : (sheet : List ℕ) → (word end : ℕ) → ShortRead
-endedWord sheet word end =
-    cond (eqb (getD sheet end 0) COMMA) (Next word end) (cond (eqb (getD sheet end 0) LF) (Last word end) Another)
-
--- the word of a number below CAP, or of `-`
-abbrev pub isShort : (word : ℕ) → Bool
-isShort word = cond (ltb word CAP) true (eqb word DASH)
-
--- the field that starts at a place of the sheet, if it is a short one and a comma or LF stands behind it
-unfoldable pub shortAt : (sheet : List ℕ) → (start : ℕ) → ShortRead
-shortAt sheet start =
-    cond (isShort (word (fieldOf (fieldAt sheet start))))
-    (endedWord sheet (word (fieldOf (fieldAt sheet start))) (start + fieldLength (drop start sheet)))
-    Another

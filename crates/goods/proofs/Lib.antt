@@ -4,5 +4,3 @@ pub mod Sums
 pub mod Portions
 pub mod Pools
 pub mod Same
-mod Passing
-mod Settling

@@ -75,8 +75,8 @@ pub fn gas_entry(from: usize, to: usize, energy: Megajoules) -> Entry
     requires { ⌜ (1 ≤ energy .0) × (energy .0 ≤ 1000000000000) ⌝ }
     ensures { λ r. ⌜ r ≡ gasMoved from to (wasteGasCharge (energy .0)) (wasteGasCredit (energy .0)) ⌝ }
 {
-    let charge = quantity::weighing::gas_charge(energy);
-    let credit = quantity::weighing::gas_credit(energy);
+    let charge = grams::weighing::gas_charge(energy);
+    let credit = grams::weighing::gas_credit(energy);
     let entering = outside(from, charge);
     let leaving = outside(to, credit);
     let uncredited = between(from, to, charge, credit);

@@ -16,13 +16,13 @@ use ledger::Totals;
 use ledger::add;
 use ledger::charge;
 use ledger::enter;
+use noting::note_own_good;
+use noting::note_process;
 use quantity::Grams;
 use quantity::SignedGrams;
 use records::read_line;
 use works::Works;
 use works::judging::line_refusal;
-use works::noting::note_own_good;
-use works::noting::note_process;
 
 // The first refusal by rows 2 to 13 and its line, 0 where there is none, and what the lines say.
 pub struct Read {

@@ -16,17 +16,18 @@ use Rattle.decimal.proofs.Bools.{and-both, never, ltb-suc}
 use Rattle.lines.specs.Lines.{LF, COMMA, beforeField, fieldsOf}
 use Rattle.lines.specs.Records.{letterIn, fieldOf, recordOf}
 use Rattle.lines.specs.Words.{WORDS, word, words, lineLength, lineAt, ReadAt}
-use Rattle.fields.specs.Scan.{fieldLength, fieldAt, wordOf, FieldReadAt, FieldBounds, EndsInLF, shortAt}
+use Rattle.fields.specs.Scan.{fieldLength, fieldAt, wordOf, FieldReadAt, FieldBounds, EndsInLF}
+use Rattle.short_fields.specs.Short.{shortAt}
 use Rattle.fields.proofs.Scanning.{field-one, not-last, word-said}
-use Rattle.fields.proofs.Short.{FieldBefore, Before, short-before}
+use Rattle.short_fields.proofs.Short.{FieldBefore, Before, short-before}
 use Rattle.records.specs.Reading.{commaAt, stored, fieldEnd, lineFields, nextFields, lastEnd, nextWords, FieldsRead, ReadSoFar}
 use Rattle.records.specs.Reading.{HeadIs, letterFirst, HeadAt, Ahead, noStep, stayed, stepBy, stepOf}
 use Rattle.records.specs.declared.Head.{Head}
 use Rattle.records.specs.declared.Step.{Step}
 use Rattle.lines.specs.declared.LineRead.{LineRead}
 use Rattle.fields.specs.declared.FieldRead.{FieldRead}
-use Rattle.fields.specs.declared.ShortRead.{ShortRead}
-use Rattle.fields.specs.declared.ShortRead.the-variants.{Next, Last, Another}
+use Rattle.short_fields.specs.declared.ShortRead.{ShortRead}
+use Rattle.short_fields.specs.declared.ShortRead.the-variants.{Next, Last, Another}
 
 -- ---- the first field of the bytes that are left
 

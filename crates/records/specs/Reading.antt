@@ -10,9 +10,10 @@ use Rattle.lines.specs.Lines.{LF, COMMA, fieldsOf}
 use Rattle.lines.specs.Records.{fieldOf, recordOf}
 use Rattle.lines.specs.Words.{WORDS, word, lineLength, lineAt}
 use Rattle.lines.specs.declared.LineRead.{LineRead}
-use Rattle.fields.specs.Scan.{fieldLength, EndsInLF, shortAt}
-use Rattle.fields.specs.declared.ShortRead.{ShortRead}
-use Rattle.fields.specs.declared.ShortRead.the-variants.{Next, Last, Another}
+use Rattle.fields.specs.Scan.{fieldLength, EndsInLF}
+use Rattle.short_fields.specs.Short.{shortAt}
+use Rattle.short_fields.specs.declared.ShortRead.{ShortRead}
+use Rattle.short_fields.specs.declared.ShortRead.the-variants.{Next, Last, Another}
 use Rattle.records.specs.declared.Head.{Head}
 use Rattle.records.specs.declared.Step.{Step}
 

@@ -6,13 +6,13 @@ ghost use lib.ListN.{length, take, drop};
 ghost use Rattle.lines.specs.Records.{letterIn, recordOf};
 ghost use Rattle.lines.specs.Words.{lineAt, ReadAt};
 ghost use Rattle.records.specs.Reading.{commaAt, stored, ReadSoFar, HeadIs, HeadAt, Ahead, noStep, stayed, stepOf};
-use fields::ShortRead;
 use fields::first_end;
 use fields::read_field;
-use fields::short_field;
 use fields::word_of;
 use lines::LineRead;
 use lines::WORDS;
+use short_fields::ShortRead;
+use short_fields::short_field;
 
 // ---- a line: its letter, then its fields
 

@@ -1,6 +1,5 @@
-// What the lines of a sheet say so far: a line judged under them, and noted.
+// The state: what the lines of a sheet say so far, and a line judged under them.
 pub mod judging;
-pub mod noting;
 
 use goods::KilosByProcess;
 use ledger::Ledger;

@@ -1,0 +1,30 @@
+-- `combustion` meets its contract: T1 stays within 2 × 10^12 and T2 within 10^15. Assumes nothing.
+use Prim.Native.Nat.{_≤_}
+use native.Mathlib.Nat.{mul-le-mul}
+use native.Mathlib.Omega.{arith}
+use Rattle.quantity.specs.Streams.{combustionGrams}
+use Rattle.grams.proofs.streams.combustion.Statement.{statement}
+use Rattle.grams.proofs.streams.combustion.Tie as tie
+
+round-thousandths-requires : tie.Need-round-thousandths-requires
+round-thousandths-requires c κs = omega (arith, mul-le-mul (c .pre .mass) (c .pre .calorific))
+
+t1-small : (c : tie.After-round-thousandths) → c .round-thousandths .result ≤ 2000000000000
+t1-small c = omega (arith, mul-le-mul (c .before .pre .mass) (c .before .pre .calorific))
+
+round-thousandths-requires-2 : tie.Need-round-thousandths-requires-2
+round-thousandths-requires-2 c κs = omega (arith, mul-le-mul (t1-small c) (c .before .pre .factor))
+
+fossil-requires : tie.Need-fossil-requires
+fossil-requires c κs =
+    let p = c .before .before .pre in
+    (omega (arith, mul-le-mul (t1-small (c .before)) (p .factor)), (p .oxidation, p .biomass))
+
+returns : tie.Need-returns
+unfolding combustionGrams
+returns c = ((cc), c .fossil .ensures .1)
+
+pub combustion-spec : {M : Type 1} → statement M
+combustion-spec =
+    tie.close
+    (tie.spec round-thousandths-requires round-thousandths-requires-2 fossil-requires returns)

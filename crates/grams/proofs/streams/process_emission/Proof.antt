@@ -1,0 +1,19 @@
+-- `process_emission` meets its contract: T1 stays within 10^15. Assumes nothing.
+use native.Mathlib.Nat.{mul-le-mul}
+use native.Mathlib.Omega.{arith}
+use Rattle.quantity.specs.Streams.{processGrams}
+use Rattle.grams.proofs.streams.process_emission.Statement.{statement}
+use Rattle.grams.proofs.streams.process_emission.Tie as tie
+
+round-thousandths-requires : tie.Need-round-thousandths-requires
+round-thousandths-requires c κs = omega (arith, mul-le-mul (c .pre .mass) (c .pre .factor))
+
+fossil-requires : tie.Need-fossil-requires
+fossil-requires c κs = (omega (arith, mul-le-mul (c .before .pre .mass) (c .before .pre .factor)), (c .before .pre .conversion, c .before .pre .biomass))
+
+returns : tie.Need-returns
+unfolding processGrams
+returns c = ((cc), c .fossil .ensures .1)
+
+pub process-emission-spec : {M : Type 1} → statement M
+process-emission-spec = tie.close (tie.spec round-thousandths-requires fossil-requires returns)

@@ -1,0 +1,3 @@
+-- Laws that the two proofs cite.
+mod Passing
+mod Settling
