@@ -1,4 +1,6 @@
 // Document 01: standard input to standard output, the report of a sheet or the number and line of its refusal.
+ghost use mathlib.Core.Path.{_≡_};
+ghost use Rattle.carbon.specs.End.{atEnd};
 use libc::STDERR_FILENO;
 use libc::STDIN_FILENO;
 use libc::STDOUT_FILENO;
@@ -8,20 +10,24 @@ use writer::LONGEST;
 // One byte more than a sheet may have, so that a longer one is seen.
 const MOST: usize = BYTES + 1;
 
-// No contract can say what a program reads and writes: runs of the program stand guard over what is done here.
+// Whether the sheet was read to its end: `got` bytes, and then one more read, which answered `after`.
+fn at_end(got: usize, after: isize) -> bool
+    ensures { λ r. ⌜ r ≡ atEnd got after ⌝ }
+{
+    (BYTES < got) | (after == 0)
+}
+
+// No contract can say what a program reads and writes: callers/run runs it at its limits and with input that cannot be read.
 fn main() {
     let mut sheet = [0u8; MOST];
     let got = io::read_full(STDIN_FILENO, &mut sheet);
     let mut more = [0u8; 1];
-    if got < MOST {
-        // At its end the input gives nothing more, and no fault.
-        if libc::read(STDIN_FILENO, &mut more) != 0 {
-            io::write_all(
-                STDERR_FILENO,
-                b"carbon: the sheet was not read to its end\n",
-            );
-            return;
-        }
+    if !at_end(got, libc::read(STDIN_FILENO, &mut more)) {
+        io::write_all(
+            STDERR_FILENO,
+            b"carbon: the sheet was not read to its end\n",
+        );
+        return;
     }
     let mut space = [0u8; LONGEST];
     let length = writer::print(&sheet[..got], &mut space);

@@ -42,7 +42,8 @@ pub fn process(count: usize, words: &[u64; WORDS], above: Above) -> Refusal
     let fields = counted(count, 2);
     let n = words[0];
     let fields = field(fields, n, 1, LAST);
-    let fields = field(fields, words[1], 1, KILOS);
+    let output = words[1];
+    let fields = field(fields, output, 1, KILOS);
     next(fields, n, above)
 }
 

@@ -18,6 +18,9 @@ slice-aggregate-read c = search needs
 read-requires : tie.Need-read-requires
 read-requires c κs = search needs
 
+at-end-requires : tie.Need-at-end-requires
+at-end-requires c κs = search needs
+
 slice-aggregate-write-all : tie.Need-slice-aggregate-write-all
 slice-aggregate-write-all c = search needs
 
@@ -70,6 +73,7 @@ main-spec =
     read-full-requires
     slice-aggregate-read
     read-requires
+    at-end-requires
     slice-aggregate-write-all
     write-all-requires
     returns

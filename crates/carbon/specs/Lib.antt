@@ -1,0 +1,2 @@
+-- For the code only: End.
+pub mod End
