@@ -15,15 +15,6 @@ use Rattle.ledger.specs.Raising.{raisedToZero, gramsAdded}
 use Rattle.ledger.specs.declared.Ledger.{Ledger}
 use Rattle.closing.specs.declared.Closing.{Closing}
 
--- ---- one kind of grams, direct or indirect
-
--- the pools over own grams, what is left of each, and all that is left: as many grams as went in
-pub record Pooled (outputs kilos : List ℕ) (count : ℕ) (own : ℕ → ℕ) (pools lefts : List ℕ) (left : ℕ) : Type 0 where
-  pub pool : Column count (poolHeld outputs kilos count own) pools
-  pub rest : Column count (leftHeld outputs kilos count own) lefts
-  pub all : left ≡ sumTo count (leftHeld outputs kilos count own)
-  pub kept : left ≡ sumTo count own
-
 -- ---- one process
 
 abbrev pub balanceHeld : Ledger → (k : ℕ) → ℤ

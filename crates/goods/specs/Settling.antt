@@ -12,7 +12,7 @@ pub use Rattle.goods.specs.ByProcess.{SIZE}
 abbrev pub PAIRS : ℕ
 PAIRS = SIZE * SIZE
 
--- 2 ^ 61 kilograms, the most that `share` divides by: a sheet has at most 10,000,000,000
+-- 2 ^ 61 kilograms, the most that `quotient` divides by: a sheet has at most 10,000,000,000
 abbrev pub largestOutput : ℕ
 largestOutput = 2305843009213693952
 

@@ -72,52 +72,62 @@ module _ {pool output : ℕ} {m : ℕ → ℕ} {before : List ℕ} {to taken giv
   pub passing-skip : m (to + 1) ≡ 0 → Passing pool output m before (to + 1) taken given pools
   passing-skip z = rw (add-one to) (skipped (rw (add-one to) at z))
 
+  pub taken-fits : (n : ℕ) → sumTo n m ≤ output → to < n → taken + m (to + 1) ≤ output
+  taken-fits n within h = rw (add-one to) (omega (arith, p .taken-is, sum-suc to m, sum-mono (suc to) n m h))
+
+  taken-next : taken + m (to + 1) ≡ sumTo (suc to) m
+  taken-next = rw (add-one to) (omega (arith, p .taken-is, sum-suc to m))
+
+  next-at : pool * (taken + m (to + 1)) / output ≡ givenTo pool output m (suc to)
+  unfolding givenTo
+  next-at = ap (λ (t : ℕ). pool * t / output) taken-next
+
+  -- with the next taker no less is given
+  pub next-rises : given ≤ pool * (taken + m (to + 1)) / output
+  next-rises = rw (next-at, given-at) (omega (arith, given-suc pool output m to))
+
   -- the next process takes its portion
-  module _ {next : ℕ} (next-is : next ≡ pool * (taken + m (to + 1)) / output) where
-    taken-next : taken + m (to + 1) ≡ sumTo (suc to) m
-    taken-next = rw (add-one to) (omega (arith, p .taken-is, sum-suc to m))
+  module _ {portion : ℕ} (is : portion ≡ pool * (taken + m (to + 1)) / output - given) where
+    given-next : given + portion ≡ pool * (taken + m (to + 1)) / output
+    given-next = omega (arith, next-rises)
 
-    next-at : next ≡ givenTo pool output m (suc to)
-    unfolding givenTo
-    next-at = next-is ∙ ap (λ (t : ℕ). pool * t / output) taken-next
-
-    portion-next : next - given ≡ portionTo pool output m (suc to)
+    portion-next : portion ≡ portionTo pool output m (suc to)
     unfolding portionTo
-    portion-next = rw (next-at, given-at)
-
-    pub next-rises : given ≤ next
-    next-rises = rw (next-at, given-at) (omega (arith, given-suc pool output m to))
+    portion-next = is ∙ rw (next-at, given-at)
 
     pub pool-fits : {n : ℕ} (from : ℕ) → pool ≡ getD before from 0 → CanPassOn n from output m before → to < n
-        → getD pools (to + 1) 0 + (next - given) < 2 ^ 64
+        → getD pools (to + 1) 0 + portion < 2 ^ 64
     pool-fits {n} from e c h =
         let r = rw (← e, portion-is pool output m n (suc to) (omega arith) (omega arith)) at (c .room (suc to) (omega arith) h) in
         rw (add-one to, portion-next) (omega (arith, p .rest (suc to) (λ u v. omega arith)))
 
+    pub given-next-fits : {n : ℕ} (from : ℕ) → pool ≡ getD before from 0 → CanPassOn n from output m before → 1 ≤ from → from ≤ n → to < n
+        → given + portion < 2 ^ 64
+    given-next-fits {n} from e c l u h =
+        let small = given-le pool (taken + m (to + 1)) output (taken-fits n (c .within) h) in
+        omega (arith, given-next, small, c .room from l u)
+
     given-away : suc to < length before
-        → Passing pool output m before (suc to) (taken + m (to + 1)) next (set pools (suc to) (getD pools (suc to) 0 + (next - given)))
+        → Passing pool output m before (suc to) (taken + m (to + 1)) (given + portion) (set pools (suc to) (getD pools (suc to) 0 + portion))
     given-away h =
         record {
           size = length-set pools (suc to) _ ∙ p .size;
           taken-is = taken-next;
-          given-is = next-is;
+          given-is = given-next;
           done = λ k l u. go k l u (eqb k (suc to)) refl;
           rest = λ k o. getD-set-other pools (suc to) k _ 0 (λ (e : k ≡ suc to). o (omega arith) (omega arith)) ∙ p .rest k (λ l u. o l (omega arith));
         }
       where
         go : (k : ℕ) → 1 ≤ k → k ≤ suc to → (b : Bool) → eqb k (suc to) ≡ b
-            → getD (set pools (suc to) (getD pools (suc to) 0 + (next - given))) k 0 ≡ getD before k 0 + portionTo pool output m k
+            → getD (set pools (suc to) (getD pools (suc to) 0 + portion)) k 0 ≡ getD before k 0 + portionTo pool output m k
         go k l u true e =
-            rw (eqb-true k (suc to) e, getD-set-same pools (suc to) (getD pools (suc to) 0 + (next - given)) 0 (omega (arith, p .size)), portion-next)
+            rw (eqb-true k (suc to) e, getD-set-same pools (suc to) (getD pools (suc to) 0 + portion) 0 (omega (arith, p .size)), portion-next)
             (omega (arith, p .rest (suc to) (λ u v. omega arith)))
         go k l u false e = let ne = eqb-false k (suc to) e in getD-set-other pools (suc to) k _ 0 ne ∙ p .done k l (omega arith)
 
     pub passing-next : to + 1 < length before
-        → Passing pool output m before (to + 1) (taken + m (to + 1)) next (set pools (to + 1) (getD pools (to + 1) 0 + (next - given)))
+        → Passing pool output m before (to + 1) (taken + m (to + 1)) (given + portion) (set pools (to + 1) (getD pools (to + 1) 0 + portion))
     passing-next h = rw (add-one to) (rw (add-one to) at (given-away (omega arith)))
-
-  pub taken-fits : (n : ℕ) → sumTo n m ≤ output → to < n → taken + m (to + 1) ≤ output
-  taken-fits n within h = rw (add-one to) (omega (arith, p .taken-is, sum-suc to m, sum-mono (suc to) n m h))
 
   pub given-fits : (n : ℕ) → sumTo n m ≤ output → to ≤ n → given ≤ pool
   given-fits n within h = rw (p .given-is) (given-le pool taken output (omega (arith, p .taken-is, sum-mono to n m h)))

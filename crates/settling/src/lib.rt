@@ -3,69 +3,127 @@ ghost use mathlib.Core.Path.{_≡_};
 ghost use Prim.Native.Nat.{_≤_};
 ghost use lib.ListN.{length};
 ghost use Rattle.goods.specs.ByProcess.{PROCESSES, SIZE, figures};
-ghost use Rattle.goods.specs.Settling.{pairs, CanPassOn, PassedOn, Settleable, NoFigures, PoolsSettled};
+ghost use Rattle.goods.specs.Settling.{pairs, CanPassOn, PassedOn, Settleable, PoolsSettled};
+use goods::GramsByProcess;
 use goods::KilosByPair;
 use goods::KilosByProcess;
 use goods::SIZE;
 use quantity::Grams;
 use quantity::Kilos;
-use shares::parted;
-use shares::parted_share;
+use shares::BothGrams;
+use shares::portions;
 
-// Process `from` passes portions of its pool on to its takers, by rising number; the result is what is left. In document 01's terms `taken` is
-// C(k−1) and `through` C(k), `given` is ⌊P × C(k−1)/A⌋ and `next` ⌊P × C(k)/A⌋.
+// A figure of each process, of direct and of indirect grams: the pools, or what is left of them.
+pub struct BothByProcess {
+    pub direct: GramsByProcess,
+    pub indirect: GramsByProcess,
+}
+
+// The pools once a process has passed its good on, and what is left of its own.
+pub struct Passed {
+    pub direct: GramsByProcess,
+    pub indirect: GramsByProcess,
+    pub left: BothGrams,
+}
+
+// Process `from` passes portions of its pools on to its takers, by rising number. In document 01's terms `pools` has P, `output` is A, `taken` C(k−1),
+// `through` C(k), and `given` has ⌊P × C(k−1)/A⌋.
 fn pass_on(
-    pools: &mut [u64; SIZE],
+    before: BothByProcess,
     output: Kilos,
     kilos: &KilosByPair,
     from: usize,
     count: usize,
-) -> Grams
-    requires { ⌜ (from ≤ count) × (count ≤ PROCESSES) ⌝ }
-    requires { ⌜ length (now pools) ≡ SIZE ⌝ }
-    requires { ⌜ CanPassOn count from (output .0) (pairs (now kilos) from) (now pools) ⌝ }
-    ensures { λ r. ⌜ PassedOn count from (output .0) (pairs (now (kilos .entry)) from) (now (pools .entry)) (now (pools .exit)) (r .0) ⌝ }
+) -> Passed
+    requires { ⌜ (1 ≤ from) × (from ≤ count) × (count ≤ PROCESSES) ⌝ }
+    requires { ⌜ (length (before .direct .0) ≡ SIZE) × (length (before .indirect .0) ≡ SIZE) ⌝ }
+    requires { ⌜ CanPassOn count from (output .0) (pairs (now kilos) from) (before .direct .0) ⌝ }
+    requires { ⌜ CanPassOn count from (output .0) (pairs (now kilos) from) (before .indirect .0) ⌝ }
+    ensures { λ r. ⌜ PassedOn count from (output .0) (pairs (now (kilos .entry)) from) (before .direct .0) (r .direct .0) (r .left .direct .0) ⌝ }
+    ensures { λ r. ⌜ PassedOn count from (output .0) (pairs (now (kilos .entry)) from) (before .indirect .0) (r .indirect .0) (r .left .indirect .0) ⌝ }
 {
-    let pool = pools[from];
-    let parts = parted(Grams(pool), output);
-    let mut taken = 0;
-    let mut given = 0;
+    let mut direct = before.direct;
+    let mut indirect = before.indirect;
+    let pools = BothGrams {
+        direct: Grams(direct.0[from]),
+        indirect: Grams(indirect.0[from]),
+    };
+    let mut taken = Kilos(0);
+    let mut given = BothGrams {
+        direct: Grams(0),
+        indirect: Grams(0),
+    };
     let mut to = from;
     while to < count {
         to += 1;
-        let at = from * SIZE + to;
-        let kg = kilos[at];
+        let kg = kilos[from * SIZE + to];
         if kg > 0 {
-            let through = taken + kg;
-            let next = parted_share(parts, Kilos(through), output);
-            pools[to] = pools[to] + (next.0 - given);
+            let through = Kilos(taken.0 + kg);
+            let taker = portions(pools, given, through, output);
+            direct.0[to] = direct.0[to] + taker.direct.0;
+            indirect.0[to] = indirect.0[to] + taker.indirect.0;
             taken = through;
-            given = next.0;
+            given = BothGrams {
+                direct: Grams(given.direct.0 + taker.direct.0),
+                indirect: Grams(given.indirect.0 + taker.indirect.0),
+            };
         }
     }
-    let left = pool - given;
-    Grams(left)
+    let left = BothGrams {
+        direct: Grams(pools.direct.0 - given.direct.0),
+        indirect: Grams(pools.indirect.0 - given.indirect.0),
+    };
+    Passed {
+        direct,
+        indirect,
+        left,
+    }
 }
 
-// The pools of processes 1 .. count, settled one after the other, and what is left of each. At entry `pools` holds the attribution of each process
-// and its bought grams, and `lefts` zeros.
+// The pools of all processes, and what is left of each.
+pub struct Settled {
+    pub direct_pools: GramsByProcess,
+    pub indirect_pools: GramsByProcess,
+    pub direct_lefts: GramsByProcess,
+    pub indirect_lefts: GramsByProcess,
+}
+
+// The pools of processes 1 .. count, settled one after the other. `own` is the attribution of each process and its bought grams.
 pub fn settle(
-    pools: &mut [u64; SIZE],
-    lefts: &mut [u64; SIZE],
+    own: BothByProcess,
     outputs: KilosByProcess,
     kilos: &KilosByPair,
     count: usize,
-)
+) -> Settled
     requires { ⌜ count ≤ PROCESSES ⌝ }
-    requires { ⌜ Settleable count (figures (outputs .0)) (pairs (now kilos)) (figures (now pools)) ⌝ }
-    requires { ⌜ (length (now pools) ≡ SIZE) × NoFigures (now lefts) ⌝ }
-    ensures { λ r. ⌜ PoolsSettled (outputs .0) (now (kilos .entry)) count (now (pools .entry)) (now (pools .exit)) (now (lefts .exit)) ⌝ }
+    requires { ⌜ (length (own .direct .0) ≡ SIZE) × (length (own .indirect .0) ≡ SIZE) ⌝ }
+    requires { ⌜ Settleable count (figures (outputs .0)) (pairs (now kilos)) (figures (own .direct .0)) ⌝ }
+    requires { ⌜ Settleable count (figures (outputs .0)) (pairs (now kilos)) (figures (own .indirect .0)) ⌝ }
+    ensures { λ r. ⌜ PoolsSettled (outputs .0) (now (kilos .entry)) count (own .direct .0) (r .«direct_pools» .0) (r .«direct_lefts» .0) ⌝ }
+    ensures { λ r. ⌜ PoolsSettled (outputs .0) (now (kilos .entry)) count (own .indirect .0) (r .«indirect_pools» .0) (r .«indirect_lefts» .0) ⌝ }
 {
+    let mut direct_pools = own.direct;
+    let mut indirect_pools = own.indirect;
+    let mut direct_lefts = GramsByProcess([0; SIZE]);
+    let mut indirect_lefts = GramsByProcess([0; SIZE]);
     let mut i = 1;
     while i <= count {
-        let output = outputs.0[i];
-        let left = pass_on(pools, Kilos(output), kilos, i, count);
-        lefts[i] = left.0;
+        let output = Kilos(outputs.0[i]);
+        let pools = BothByProcess {
+            direct: direct_pools,
+            indirect: indirect_pools,
+        };
+        let passed = pass_on(pools, output, kilos, i, count);
+        direct_pools = passed.direct;
+        indirect_pools = passed.indirect;
+        direct_lefts.0[i] = passed.left.direct.0;
+        indirect_lefts.0[i] = passed.left.indirect.0;
         i += 1;
+    }
+    Settled {
+        direct_pools,
+        indirect_pools,
+        direct_lefts,
+        indirect_lefts,
     }
 }

@@ -1,81 +1,94 @@
 -- Long division by the bits of the pool, on plain numbers: q and r are quotient and remainder, w is the whole, p the part,
 -- b a bit. Assumes nothing.
-use mathlib.Core.Path.{_≡_, sym, ap, subst, _∙_}
+use mathlib.Core.Path.{_≡_, refl, sym, ap, _∙_}
+use mathlib.Core.Bool.{Bool, true, false}
 use Prim.Native.Nat.{ℕ, _+_, _-_, _*_, _/_, _%_, _^_, _≤_, _<_}
-use native.Mathlib.Nat.{mod-lt, le-trans, le-of-lt, le-of-eq, lt-of-lt-of-le, div-add-mod', lt-of-le-of-lt, lt-of-mul-lt-mul-right}
-use native.Mathlib.Nat.{mul-lt-mul-of-pos-right, mul-le-mul-left, mul-le-mul-right, mul-comm, add-mul, mul-right-comm}
-use native.Mathlib.Nat.{div-eq-of-lt-le, div-one, div-mul-le-self, le-div-iff-mul-le, div-le-of-le-mul}
+use native.Mathlib.Nat.{mod-lt, lt-of-le-of-lt, lt-of-mul-lt-mul-right, mul-lt-mul-of-pos-right, mul-le-mul-left, mul-le-mul-right}
+use native.Mathlib.Nat.{div-add-mod', add-mul, mul-right-comm, div-eq-of-lt-le, div-one}
 use native.Mathlib.Omega.{arith}
-use lib.Bits.{bitAnd, and-mask}
-use lib.Count.{leadingZeros, leading-le, leading-length}
-use lib.Pow.{pow-pos, pow-mono, pow-add, shr-shr, shr-le, shr-lt}
-use Rattle.shares.specs.Ranges.{PartRange}
+use borrow.Author.Tests.{leb-true, leb-false}
+use mir.Val.{boolByte}
+use lib.Dec.{leb}
+use lib.Bits.{bitAnd, bitOr, and-mask, and-le-l, and-le-r, or-add-and}
+use lib.Count.{leadingZeros, leading-length}
+use lib.Pow.{shr-shr, shr-le, shr-lt}
+use Rattle.shares.specs.Ranges.{PartRange, BitRange}
 
--- ---- the remainder brought below the whole
-next-multiple : (q r w : ℕ) → w ≤ r → (q + 1) * w ≤ q * w + r
-next-multiple q r w h = omega (arith, add-mul q 1 w)
+-- quotient and remainder make up the dividend, and are those of a division
+quotient-is : (q r n w : ℕ) → q * w + r ≡ n → r < w → n / w ≡ q
+quotient-is q r n w e h = div-eq-of-lt-le w (let l : q * w ≤ n = omega arith in l) (let u : n < (q + 1) * w = omega (arith, add-mul q 1 w) in u)
 
-pub one-more : (q r w : ℕ) → w ≤ r → q * w + r < 2 ^ 64 * w → q + 1 < 2 ^ 64
-one-more q r w h room = lt-of-mul-lt-mul-right w (lt-of-le-of-lt (next-multiple q r w h) room)
+-- ---- the wholes in a number below three of them
+no-whole : (n w : ℕ) → n < w → n / w ≡ 0
+no-whole n w h = quotient-is 0 n n w (omega arith) h
 
-pub taken-off : (q r w : ℕ) → w ≤ r → (q + 1) * w + (r - w) ≡ q * w + r
-taken-off q r w h = omega (arith, add-mul q 1 w)
+one-whole : (n w : ℕ) → w ≤ n → n < w * 2 → n / w ≡ 1
+one-whole n w l h = quotient-is 1 (n - w) n w (omega arith) (omega arith)
 
-pub left-below : (r w : ℕ) → w ≤ r → r < w * 2 → r - w < w
-left-below r w h below = omega arith
+two-wholes : (n w : ℕ) → w * 2 ≤ n → n < w * 3 → n / w ≡ 2
+two-wholes n w l h = quotient-is 2 (n - w * 2) n w (omega arith) (omega arith)
+
+-- as the code counts them
+wholes-are : (n w : ℕ) → n < w * 3 → boolByte (leb w n) + boolByte (leb (w * 2) n) ≡ n / w
+wholes-are n w h = go (leb w n) refl (leb (w * 2) n) refl
+  where
+    go : (a : Bool) → leb w n ≡ a → (b : Bool) → leb (w * 2) n ≡ b → boolByte a + boolByte b ≡ n / w
+    go true p true q = sym (two-wholes n w (leb-true (w * 2) n q) h)
+    go true p false q = sym (one-whole n w (leb-true w n p) (leb-false (w * 2) n q))
+    go false p true q = let u = leb-false w n p in let v = leb-true (w * 2) n q in absurd (omega arith)
+    go false p false q = sym (no-whole n w (leb-false w n p))
 
 -- ---- one more bit
-pub doubled : (q r w : ℕ) → q * 2 * w + r * 2 ≡ (q * w + r) * 2
-doubled q r w = omega (arith, mul-right-comm q 2 w)
-
-doubled-least : (q r w n : ℕ) → q * 2 * w + r * 2 ≤ (q * w + r) * 2 + n
-doubled-least q r w n = omega (arith, doubled q r w)
-
-quotient-least : (x y : ℕ) → x ≤ x + y
-quotient-least x y = omega arith
-
--- the doubled division, settled, grows by n
-pub grown : (q r w n q₁ r₁ : ℕ) → q₁ * w + r₁ ≡ q * 2 * w + r * 2 → q₁ * w + (r₁ + n) ≡ (q * w + r) * 2 + n
-grown q r w n q₁ r₁ e = omega (arith, doubled q r w)
-
-module _ (q r w n : ℕ) (room : (q * w + r) * 2 + n < 2 ^ 64 * w) where
-  pub doubled-room : q * 2 * w + r * 2 < 2 ^ 64 * w
-  doubled-room = lt-of-le-of-lt (doubled-least q r w n) room
-
-  pub doubled-fits : q * 2 < 2 ^ 64
-  doubled-fits = lt-of-mul-lt-mul-right w (lt-of-le-of-lt (quotient-least (q * 2 * w) (r * 2)) doubled-room)
-
-  pub grown-room : (q₁ r₁ : ℕ) → q₁ * w + r₁ ≡ q * 2 * w + r * 2 → q₁ * w + (r₁ + n) < 2 ^ 64 * w
-  grown-room q₁ r₁ e = rw (grown q r w n q₁ r₁ e) room
-
-pub doubled-below : {r w : ℕ} → r < w → r * 2 < w * 2
-doubled-below h = omega arith
-
-pub remainder-fits : {p w r : ℕ} → PartRange p w → r < w → r * 2 < 2 ^ 64
-remainder-fits range h = omega arith
-
-module _ {p w b : ℕ} (range : PartRange p w) (bit : b ≤ 1) where
+module _ {b q r p w : ℕ} (range : PartRange p w) (bit : BitRange b q r p w) where
   added : b * p ≤ p
-  added = omega (arith, mul-le-mul-right p bit)
+  added = omega (arith, mul-le-mul-right p (bit .one))
 
   pub added-fits : b * p < 2 ^ 64
-  added-fits = omega (arith, added)
+  added-fits = omega (arith, added, range .within, range .small)
 
-  pub grown-fits : {r : ℕ} → r < w → r + b * p < 2 ^ 64
-  grown-fits h = omega (arith, added)
+  pub grown-below : r * 2 + b * p < w * 3
+  grown-below = omega (arith, added, range .within, bit .below)
 
-  pub grown-below : {r : ℕ} → r < w → r + b * p < w * 2
-  grown-below h = omega (arith, added)
+  pub doubled-fits : q * 2 < 2 ^ 64
+  doubled-fits = lt-of-mul-lt-mul-right w (lt-of-le-of-lt (let l : q * 2 * w ≤ (q * w + r) * 2 + b * p = omega (arith, mul-right-comm q 2 w) in l) (bit .room))
+
+  abbrev grown : ℕ
+  grown = r * 2 + b * p
+
+  -- the wholes that go over to the quotient
+  abbrev wholes : ℕ
+  wholes = boolByte (leb w grown) + boolByte (leb (w * 2) grown)
+
+  parted : wholes * w + grown % w ≡ grown
+  parted = rw (wholes-are grown w grown-below) (div-add-mod' grown w)
+
+  pub taken-off : wholes * w ≤ grown
+  taken-off = omega (arith, parted)
+
+  pub left-below : grown - wholes * w < w
+  left-below = omega (arith, parted, mod-lt grown (range .positive))
+
+  pub dividend : (q * 2 + wholes) * w + (grown - wholes * w) ≡ (q * w + r) * 2 + b * p
+  dividend = omega (arith, taken-off, add-mul (q * 2) wholes w, mul-right-comm q 2 w)
+
+  pub quotient-fits : q * 2 + wholes < 2 ^ 64
+  quotient-fits =
+      lt-of-mul-lt-mul-right w (lt-of-le-of-lt (let l : (q * 2 + wholes) * w ≤ (q * w + r) * 2 + b * p = omega (arith, dividend) in l) (bit .room))
 
 -- ---- the bits of the pool P
 bit-is : (P j : ℕ) → bitAnd (P / 2 ^ j) 1 ≡ P / 2 ^ j % 2
 bit-is P j = and-mask (P / 2 ^ j) 1
 
-pub bit-small : (P j : ℕ) → bitAnd (P / 2 ^ j) 1 ≤ 1
+bit-small : (P j : ℕ) → bitAnd (P / 2 ^ j) 1 ≤ 1
 bit-small P j = omega (arith, bit-is P j)
 
+-- quotient and remainder make up the part times the bits of the pool from i up
+pub record Walked (P p w i q r : ℕ) : Type 0 where
+  pub dividend-is : q * w + r ≡ P / 2 ^ i * p
+  pub below : r < w
+
 -- the dividend at j from that at j + 1
-pub next : (P p j t : ℕ) → t ≡ P / 2 ^ (j + 1) * p → t * 2 + bitAnd (P / 2 ^ j) 1 * p ≡ P / 2 ^ j * p
+next : (P p j t : ℕ) → t ≡ P / 2 ^ (j + 1) * p → t * 2 + bitAnd (P / 2 ^ j) 1 * p ≡ P / 2 ^ j * p
 next P p j t e =
     let n : ℕ = P / 2 ^ j in
     let half : n / 2 ≡ P / 2 ^ (j + 1) = shr-shr P j 1 in
@@ -85,74 +98,42 @@ next P p j t e =
     let m : (n / 2 * 2 + n % 2) * p ≡ n * p = ap (λ (x : ℕ). x * p) s in
     omega (arith, add-mul (n / 2 * 2) (n % 2) p, mul-right-comm (n / 2) 2 p)
 
-pub room : {p w : ℕ} (P j : ℕ) → P < 2 ^ 64 → PartRange p w → P / 2 ^ j * p < 2 ^ 64 * w
+room : {p w : ℕ} (P j : ℕ) → P < 2 ^ 64 → PartRange p w → P / 2 ^ j * p < 2 ^ 64 * w
 room P j h range =
     lt-of-le-of-lt (mul-le-mul-left (P / 2 ^ j) (range .within))
     (mul-lt-mul-of-pos-right (lt-of-le-of-lt (shr-le P j) h) (range .positive))
 
--- ---- the highest bits of P at once: their product with C fits
-product-fits : (x C m : ℕ) → m ≤ 64 → x < 2 ^ (64 - m) → C < 2 ^ m → x * C < 2 ^ 64
-product-fits x C m h p q =
-    let whole : 64 - m + m ≡ 64 = omega arith in
-    let e : 2 ^ (64 - m) * 2 ^ m ≡ 2 ^ 64 = sym (pow-add 2 (64 - m) m) ∙ ap (λ (n : ℕ). 2 ^ n) whole in
-    lt-of-le-of-lt (mul-le-mul-left x (le-of-lt q)) (lt-of-lt-of-le (mul-lt-mul-of-pos-right p (pow-pos m)) (le-of-eq e))
+-- one more bit of P: what the step asks, and what it gives
+module _ {P p w i q r : ℕ} (walked : Walked P p w i q r) (some : 0 < i) where
+  turned : (q * w + r) * 2 + bitAnd (P / 2 ^ (i - 1)) 1 * p ≡ P / 2 ^ (i - 1) * p
+  turned =
+      let e : i ≡ i - 1 + 1 = omega arith in
+      next P p (i - 1) _ (walked .dividend-is ∙ ap (λ (n : ℕ). P / 2 ^ n * p) e)
 
-module _ (P C : ℕ) (pool-fits : P < 2 ^ 64) (part-fits : C < 2 ^ 64) where
-  pub zeros-few : leadingZeros 64 P + leadingZeros 64 C ≤ 128
-  zeros-few = omega (arith, leading-le 64 P, leading-le 64 C)
+  pub asked : P < 2 ^ 64 → PartRange p w → BitRange (bitAnd (P / 2 ^ (i - 1)) 1) q r p w
+  asked h range = record { one = bit-small P (i - 1); below = walked .below; room = rw turned (room P (i - 1) h range) }
 
-  pub highest-one : P / 2 ^ 63 * C < 2 ^ 64
-  highest-one =
-      let one : P / 2 ^ 63 < 2 = shr-lt 1 63 pool-fits in
-      omega (arith, mul-le-mul-right C (let h : P / 2 ^ 63 ≤ 1 = omega arith in h))
+  pub walked-on : {q′ r′ : ℕ} → q′ * w + r′ ≡ (q * w + r) * 2 + bitAnd (P / 2 ^ (i - 1)) 1 * p → r′ < w → Walked P p w (i - 1) q′ r′
+  walked-on e h = record { dividend-is = e ∙ turned; below = h }
 
-  pub highest-all : 64 ≤ leadingZeros 64 P + leadingZeros 64 C → P / 2 ^ 0 * C < 2 ^ 64
-  highest-all h =
-      let p = leading-length 64 P pool-fits in
-      let c = leading-length 64 C part-fits in
-      product-fits (P / 2 ^ 0) C (c .0) (omega (arith, c .1))
-      (lt-of-le-of-lt (shr-le P 0) (lt-of-lt-of-le (p .2) (pow-mono (let e : p .0 ≤ 64 - c .0 = omega (arith, p .1, c .1) in e))))
-      (c .2)
+-- above the highest one bit of a number with at least its bits nothing is left of P
+pub not-walked : (P n p w : ℕ) → P ≤ n → n < 2 ^ 64 → 1 ≤ w → Walked P p w (64 - leadingZeros 64 n) 0 0
+not-walked P n p w small h some =
+    let length = leading-length 64 n h in
+    let e : length .0 ≡ 64 - leadingZeros 64 n = omega (arith, length .1) in
+    let none : P / 2 ^ length .0 ≡ 0 = no-whole P (2 ^ length .0) (lt-of-le-of-lt small (length .2)) in
+    record { dividend-is = rw (← e, none) (omega arith); below = some }
 
-  pub highest-some : leadingZeros 64 P + leadingZeros 64 C < 64 → P / 2 ^ (64 - (leadingZeros 64 P + leadingZeros 64 C)) * C < 2 ^ 64
-  highest-some h =
-      let p = leading-length 64 P pool-fits in
-      let c = leading-length 64 C part-fits in
-      let i : ℕ = 64 - (leadingZeros 64 P + leadingZeros 64 C) in
-      let e : p .0 ≡ 64 - c .0 + i = omega (arith, p .1, c .1) in
-      product-fits (P / 2 ^ i) C (c .0) (omega (arith, c .1)) (shr-lt (64 - c .0) i (subst (λ (n : ℕ). P < 2 ^ n) e (p .2))) (c .2)
+pub or-first : (a b : ℕ) → a ≤ bitOr a b
+or-first a b = omega (arith, or-add-and a b, and-le-r a b)
 
--- quotient and remainder make up the dividend
-pub divided : (n w : ℕ) → n / w * w + n % w ≡ n
-divided n w = div-add-mod' n w
+pub or-second : (a b : ℕ) → b ≤ bitOr a b
+or-second a b = omega (arith, or-add-and a b, and-le-l a b)
 
 -- all bits of P stand from 0 up
 whole : (P p : ℕ) {i : ℕ} → i ≡ 0 → P / 2 ^ i * p ≡ P * p
 whole P p e = ap (λ (n : ℕ). P / 2 ^ n * p) e ∙ ap (λ (n : ℕ). n * p) (div-one P)
 
-quotient : (q r n w : ℕ) → q * w + r ≡ n → r < w → q ≡ n / w
-quotient q r n w e h =
-    sym (div-eq-of-lt-le w (let l : q * w ≤ n = omega arith in l) (let u : n < (q + 1) * w = omega (arith, add-mul q 1 w) in u))
-
 -- the walk's end
-pub done : (q r P p w : ℕ) {i : ℕ} → i ≡ 0 → q * w + r ≡ P / 2 ^ i * p → r < w → q ≡ P * p / w
-done q r P p w z e h = quotient q r (P * p) w (e ∙ whole P p z) h
-
--- ---- the exact quotient
-pub share-small : (P p w : ℕ) → p ≤ w → P * p / w ≤ P
-share-small P p w h = div-le-of-le-mul w (le-trans (mul-le-mul-left P h) (let e : P * w ≤ w * P = omega (arith, mul-comm P w) in e))
-
-pub share-rising : (P c₁ c₂ w : ℕ) → c₁ ≤ c₂ → 1 ≤ w → P * c₁ / w ≤ P * c₂ / w
-share-rising P c₁ c₂ w h one =
-    le-div-iff-mul-le one .1 (le-trans (div-mul-le-self (P * c₁) w) (mul-le-mul-left P h))
-
--- P is t times w and a rest s
-pub by-rest : (t s p w : ℕ) → 1 ≤ w → t * p + s * p / w ≡ (t * w + s) * p / w
-by-rest t s p w one =
-    let rest : s * p / w * w + s * p % w ≡ s * p = divided (s * p) w in
-    let e : (t * p + s * p / w) * w + s * p % w ≡ (t * w + s) * p =
-    omega (arith, add-mul (t * p) (s * p / w) w, mul-right-comm t p w, add-mul (t * w) s p) in
-    quotient (t * p + s * p / w) (s * p % w) ((t * w + s) * p) w e (mod-lt (s * p) one)
-
-pub times-small : (t s p w : ℕ) → p ≤ w → 1 ≤ w → t * p + s * p / w ≤ t * w + s
-times-small t s p w h one = le-trans (le-of-eq (by-rest t s p w one)) (share-small (t * w + s) p w h)
+pub all-walked : {P p w i q r : ℕ} → Walked P p w i q r → i ≡ 0 → q ≡ P * p / w
+all-walked {P} {p} {w} {i} {q} {r} walked z = sym (quotient-is q r (P * p) w (walked .dividend-is ∙ whole P p z) (walked .below))

@@ -1,5 +1,5 @@
--- For the code only: what `share`, `parted_share` and `portion` ask of their arguments: kilograms of goods within the output that they are taken of.
-use Prim.Native.Nat.{ℕ, _≤_}
+-- For the code only: what `with_bit`, `quotient` and `portion` ask of their arguments.
+use Prim.Native.Nat.{ℕ, _+_, _*_, _^_, _≤_, _<_}
 
 -- a part of a whole: the whole is at most 2^61
 pub record PartRange (part whole : ℕ) : Type 0 where
@@ -7,9 +7,8 @@ pub record PartRange (part whole : ℕ) : Type 0 where
   pub positive : 1 ≤ whole
   pub small : whole ≤ 2305843009213693952
 
--- the kg of the takers before one, and with it, of an output
-pub record TakerRange (before with output : ℕ) : Type 0 where
-  pub rising : before ≤ with
-  pub within : with ≤ output
-  pub positive : 1 ≤ output
-  pub small : output ≤ 2305843009213693952
+-- a bit, and a division under way whose quotient still fits a word with it
+pub record BitRange (bit quotient remainder part whole : ℕ) : Type 0 where
+  pub one : bit ≤ 1
+  pub below : remainder < whole
+  pub room : (quotient * whole + remainder) * 2 + bit * part < 2 ^ 64 * whole

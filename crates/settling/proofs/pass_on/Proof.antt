@@ -1,99 +1,148 @@
--- `settling::pass_on` meets its contract. The loop's invariant: processes up to `to` have had their portions (`Passing`). The measure is how many
--- processes are left. Assumes nothing.
-use Prim.Native.Nat.{_+_, _-_, _*_, _/_, _≤_, _<_}
+-- `settling::pass_on` meets its contract. The loop's invariant: processes up to `to` have had their portions of both pools (`Passing`). The measure is
+-- how many processes are left. Assumes nothing.
+use Prim.Native.Nat.{_+_, _-_, _^_, _≤_, _<_}
 use mathlib.Core.Path.{_≡_, refl}
 use native.Mathlib.Omega.{arith}
 use lib.ListN.{getD}
 use Rattle.goods.specs.Settling.{pairs}
-use Rattle.settling.proofs.Passing.{Passing, passing-none, passing-skip, passing-next, next-rises, pool-fits, taken-fits, given-fits, passing-all}
+use Rattle.settling.proofs.Passing.{Passing, passing-none, passing-skip, passing-next, next-rises}
+use Rattle.settling.proofs.Passing.{pool-fits, given-next-fits, taken-fits, given-fits, passing-all}
 use Rattle.settling.proofs.pass_on.Statement.{statement}
 use Rattle.settling.proofs.pass_on.Tie as tie
 
 abbrev Inv-loop : tie.InvT-loop
-Inv-loop pools₀ output kilos from count pool parts taken₀ given₀ to₀ pools taken given to =
-    (from ≤ to) × (to ≤ count) × (Passing pool (output .0) (pairs kilos from) pools₀ to taken given pools)
+Inv-loop output kilos from count direct₀ indirect₀ pools taken₀ given₀ to₀ direct indirect taken given to =
+    (from ≤ to) × (to ≤ count)
+    × Passing (pools .direct .0) (output .0) (pairs kilos from) (direct₀ .0) to (taken .0) (given .direct .0) (direct .0)
+    × Passing (pools .indirect .0) (output .0) (pairs kilos from) (indirect₀ .0) to (taken .0) (given .indirect .0) (indirect .0)
 
 abbrev μ-loop : tie.MeasureT-loop
-μ-loop pools₀ output kilos from count pool parts taken₀ given₀ to₀ pools taken given to = count - to
+μ-loop output kilos from count direct₀ indirect₀ pools taken₀ given₀ to₀ direct indirect taken given to = count - to
 
-mul-pool : tie.Need-mul-pool Inv-loop μ-loop
-mul-pool c = omega arith
+mul-t16 : tie.Need-mul-t16 Inv-loop μ-loop
+mul-t16 c = omega arith
 
-element-copy-out-pool : tie.Need-element-copy-out-pool Inv-loop μ-loop
-element-copy-out-pool c = omega arith
+element-copy-out-t19 : tie.Need-element-copy-out-t19 Inv-loop μ-loop
+element-copy-out-t19 c = omega arith
 
-parted-requires : tie.Need-parted-requires Inv-loop μ-loop
-parted-requires c κs = c .before .pre .1 .1 .some
+mul-t21 : tie.Need-mul-t21 Inv-loop μ-loop
+mul-t21 c = omega arith
+
+element-copy-out-t24 : tie.Need-element-copy-out-t24 Inv-loop μ-loop
+element-copy-out-t24 c = omega arith
 
 loop-holds : tie.Need-loop-holds Inv-loop μ-loop
 loop-holds c =
-    let s = c .before .before in
-    (omega arith, s .pre .0 .0, passing-none _ _ _ _ (s .args .from) (s .pre .1 .1 .ahead))
+    let s = c .before .before .before .before in
+    let ahead = s .pre .1 .1 .0 .ahead in
+    (omega arith, s .pre .0 .1, passing-none _ _ _ _ (s .args .from) ahead, passing-none _ _ _ _ (s .args .from) ahead)
+
+abbrev start : tie.At-loop Inv-loop μ-loop → tie.Start Inv-loop μ-loop
+start h = h .before .before .before .before .before
 
 -- in a turn: the kilograms taken so far are within the output
-taken-within : (h : tie.At-loop Inv-loop μ-loop) → h .loop .to < h .before .before .before .args .count
-    → let s = h .before .before .before .args in h .loop .taken + pairs (s .kilos .now) (s .from) (h .loop .to + 1) ≤ s .output .0
-taken-within h l = taken-fits (h .loop .inv .2) (h .before .before .before .args .count) (h .before .before .before .pre .1 .1 .within) l
+taken-within : (h : tie.At-loop Inv-loop μ-loop) → h .loop .to < start h .args .count
+    → let s = start h .args in h .loop .taken .0 + pairs (s .kilos .now) (s .from) (h .loop .to + 1) ≤ s .output .0
+taken-within h l = taken-fits (h .loop .inv .2) (start h .args .count) (start h .pre .1 .1 .0 .within) l
 
 add-to : tie.Need-add-to Inv-loop μ-loop
 add-to c = omega arith
 
-mul-at : tie.Need-mul-at Inv-loop μ-loop
-mul-at c = omega arith
-
-add-at : tie.Need-add-at Inv-loop μ-loop
-add-at c = omega arith
-
 mul-kg : tie.Need-mul-kg Inv-loop μ-loop
 mul-kg c = omega arith
+
+add-kg : tie.Need-add-kg Inv-loop μ-loop
+add-kg c = omega arith
+
+mul-kg-2 : tie.Need-mul-kg-2 Inv-loop μ-loop
+mul-kg-2 c = omega arith
 
 element-copy-out-kg : tie.Need-element-copy-out-kg Inv-loop μ-loop
 element-copy-out-kg c = omega arith
 
-add-through : tie.Need-add-through Inv-loop μ-loop
-add-through c = omega (arith, taken-within (c .before .before .before) (c .before .before .loop-test .taken))
+add-direct : tie.Need-add-direct Inv-loop μ-loop
+add-direct c = record { fits = omega (arith, taken-within (c .before .before .before .before) (c .before .before .before .loop-test .taken)) }
 
-parted-share-requires : tie.Need-parted-share-requires Inv-loop μ-loop
-parted-share-requires c κs =
-    let h = c .before .before .before in
-    let p = h .before .before .before .pre .1 .1 in
-    (omega (arith, taken-within h (c .before .before .loop-test .taken)), h .before .parted .ensures .1 .1)
+portions-requires : tie.Need-portions-requires Inv-loop μ-loop
+portions-requires c κs =
+    let h = c .before .before .before .before in
+    let p = start h .pre .1 .1 .0 in
+    let within = taken-within h (c .before .before .before .loop-test .taken) in (
+      record { within = within; positive = p .some; small = p .small },
+      (next-rises (h .loop .inv .2), next-rises (h .loop .inv .3)),
+    )
 
--- the taker's share, of the pool that was parted before the loop
-share-is : (k : tie.After-parted-share Inv-loop μ-loop)
-    → let h = k .before .before .before .before in let s = h .before .before .before .args in
-    k .parted-share .result .0 ≡ getD (s .pools .now) (s .from) 0 * (h .loop .taken + pairs (s .kilos .now) (s .from) (h .loop .to + 1)) / s .output .0
-share-is k = rw (← k .before .before .before .before .before .parted .ensures .0) (k .parted-share .ensures .0)
+-- both portions are had
+module _ (k : tie.After-portions Inv-loop μ-loop) where
+  abbrev turn : tie.At-loop Inv-loop μ-loop
+  turn = k .before .before .before .before .before
 
-mul-pools : tie.Need-mul-pools Inv-loop μ-loop
-mul-pools c = omega arith
+  more : turn .loop .to < start turn .args .count
+  more = k .before .before .before .before .loop-test .taken
 
-element-copy-out-pools : tie.Need-element-copy-out-pools Inv-loop μ-loop
-element-copy-out-pools c = omega arith
+  direct-fits : getD (turn .loop .direct .0) (turn .loop .to + 1) 0 + k .portions .result .direct .0 < 2 ^ 64
+  direct-fits = pool-fits (turn .loop .inv .2) (k .portions .ensures .0) (start turn .args .from) refl (start turn .pre .1 .1 .0) more
 
-sub-pools : tie.Need-sub-pools Inv-loop μ-loop
-sub-pools c = let h = c .before .before .before .before .before .before in next-rises (h .loop .inv .2) (share-is (c .before .before))
+  indirect-fits : getD (turn .loop .indirect .0) (turn .loop .to + 1) 0 + k .portions .result .indirect .0 < 2 ^ 64
+  indirect-fits = pool-fits (turn .loop .inv .3) (k .portions .ensures .1) (start turn .args .from) refl (start turn .pre .1 .1 .1) more
 
-add-pools : tie.Need-add-pools Inv-loop μ-loop
-add-pools c =
-    let h = c .before .before .before .before .before .before in
-    let l = c .before .before .before .before .before .loop-test .taken in
-    let s = h .before .before .before in
-    record { fits = pool-fits (h .loop .inv .2) (share-is (c .before .before)) (s .args .from) refl (s .pre .1 .1) l }
+  given-direct-fits : turn .loop .given .direct .0 + k .portions .result .direct .0 < 2 ^ 64
+  given-direct-fits = given-next-fits (turn .loop .inv .2) (k .portions .ensures .0) (start turn .args .from) refl (start turn .pre .1 .1 .0)
+      (start turn .pre .0 .0) (start turn .pre .0 .1) more
 
-mul-pools-2 : tie.Need-mul-pools-2 Inv-loop μ-loop
-mul-pools-2 c = omega arith
+  given-indirect-fits : turn .loop .given .indirect .0 + k .portions .result .indirect .0 < 2 ^ 64
+  given-indirect-fits = given-next-fits (turn .loop .inv .3) (k .portions .ensures .1) (start turn .args .from) refl (start turn .pre .1 .1 .1)
+      (start turn .pre .0 .0) (start turn .pre .0 .1) more
 
-element-write-pools : tie.Need-element-write-pools Inv-loop μ-loop
-element-write-pools c = omega arith
+mul-direct : tie.Need-mul-direct Inv-loop μ-loop
+mul-direct c = omega arith
+
+element-copy-out-direct : tie.Need-element-copy-out-direct Inv-loop μ-loop
+element-copy-out-direct c = omega arith
+
+add-direct-2 : tie.Need-add-direct-2 Inv-loop μ-loop
+add-direct-2 c = record { fits = direct-fits (c .before .before) }
+
+mul-direct-2 : tie.Need-mul-direct-2 Inv-loop μ-loop
+mul-direct-2 c = omega arith
+
+element-write-direct : tie.Need-element-write-direct Inv-loop μ-loop
+element-write-direct c = omega arith
+
+mul-indirect : tie.Need-mul-indirect Inv-loop μ-loop
+mul-indirect c = omega arith
+
+element-copy-out-indirect : tie.Need-element-copy-out-indirect Inv-loop μ-loop
+element-copy-out-indirect c = omega arith
+
+add-indirect : tie.Need-add-indirect Inv-loop μ-loop
+add-indirect c = record { fits = indirect-fits (c .before .before .before .before) }
+
+mul-indirect-2 : tie.Need-mul-indirect-2 Inv-loop μ-loop
+mul-indirect-2 c = omega arith
+
+element-write-indirect : tie.Need-element-write-indirect Inv-loop μ-loop
+element-write-indirect c = omega arith
+
+add-t33 : tie.Need-add-t33 Inv-loop μ-loop
+add-t33 c = record { fits = given-direct-fits (c .before .before .before .before .before .before) }
+
+add-t37 : tie.Need-add-t37 Inv-loop μ-loop
+add-t37 c = record { fits = given-indirect-fits (c .before .before .before .before .before .before .before .before) }
 
 loop-less : tie.Need-loop-less Inv-loop μ-loop
 loop-less c = omega arith
 
 loop-again : tie.Need-loop-again Inv-loop μ-loop
 loop-again c =
-    let h = c .before .before .before .before .before .before in
-    (omega arith, omega arith, passing-next (h .loop .inv .2) (share-is (c .before .before)) (omega (arith, h .before .before .before .pre .1 .0)))
+    let k = c .before .before .before .before .before .before .before .before in
+    let h = turn k in
+    let s = start h in (
+      omega arith,
+      omega arith,
+      passing-next (h .loop .inv .2) (k .portions .ensures .0) (omega (arith, s .pre .1 .0 .0)),
+      passing-next (h .loop .inv .3) (k .portions .ensures .1) (omega (arith, s .pre .1 .0 .1)),
+    )
 
 loop-less-2 : tie.Need-loop-less-2 Inv-loop μ-loop
 loop-less-2 c = omega arith
@@ -101,15 +150,24 @@ loop-less-2 c = omega arith
 loop-again-2 : tie.Need-loop-again-2 Inv-loop μ-loop
 loop-again-2 c =
     let h = c .before .before .before in
-    (omega arith, omega arith, passing-skip (h .loop .inv .2) (omega arith))
+    let none : pairs (start h .args .kilos .now) (start h .args .from) (h .loop .to + 1) ≡ 0 = omega arith in
+    (omega arith, omega arith, passing-skip (h .loop .inv .2) none, passing-skip (h .loop .inv .3) none)
 
-sub-left : tie.Need-sub-left Inv-loop μ-loop
-sub-left c =
-    let h = c .before in
-    omega (arith, given-fits (h .loop .inv .2) (h .before .before .before .args .count) (h .before .before .before .pre .1 .1 .within) (omega arith))
+sub-t19 : tie.Need-sub-t19 Inv-loop μ-loop
+sub-t19 c =
+    let h = c .before .before .before in
+    given-fits (h .loop .inv .2) (start h .args .count) (start h .pre .1 .1 .0 .within) (omega arith)
+
+sub-t24 : tie.Need-sub-t24 Inv-loop μ-loop
+sub-t24 c =
+    let h = c .before .before .before .before .before in
+    given-fits (h .loop .inv .3) (start h .args .count) (start h .pre .1 .1 .0 .within) (omega arith)
 
 returns : tie.Need-returns Inv-loop μ-loop
-returns c = let h = c .before in let s = h .before .before .before .args in passing-all (h .loop .inv .2) (s .count) (s .from) refl (omega arith)
+returns c =
+    let h = c .before .before .before .before .before in
+    let all : start h .args .count ≡ h .loop .to = omega arith in
+    (passing-all (h .loop .inv .2) _ (start h .args .from) refl all, passing-all (h .loop .inv .3) _ (start h .args .from) refl all)
 
 pub pass-on-spec : {M : Type 1} → statement M
 pass-on-spec =
@@ -117,26 +175,34 @@ pass-on-spec =
     (tie.spec
     Inv-loop
     μ-loop
-    mul-pool
-    element-copy-out-pool
-    parted-requires
+    mul-t16
+    element-copy-out-t19
+    mul-t21
+    element-copy-out-t24
     loop-holds
     add-to
-    mul-at
-    add-at
     mul-kg
+    add-kg
+    mul-kg-2
     element-copy-out-kg
-    add-through
-    parted-share-requires
-    mul-pools
-    element-copy-out-pools
-    sub-pools
-    add-pools
-    mul-pools-2
-    element-write-pools
+    add-direct
+    portions-requires
+    mul-direct
+    element-copy-out-direct
+    add-direct-2
+    mul-direct-2
+    element-write-direct
+    mul-indirect
+    element-copy-out-indirect
+    add-indirect
+    mul-indirect-2
+    element-write-indirect
+    add-t33
+    add-t37
     loop-less
     loop-again
     loop-less-2
     loop-again-2
-    sub-left
+    sub-t19
+    sub-t24
     returns)
