@@ -6,12 +6,17 @@
  *
  * For every function below:
  *
- * - It takes every sheet, every space and every line number: a caller checks nothing beforehand.
- * - It never allocates, never traps, always returns and keeps no state between calls. It is safe from several threads at
- *   once, as long as no thread writes to a sheet that is being read, and each call has its own space, `line`, `length`
- *   and `start`.
- * - Asked of memory: every pointer is valid for its length and none is null, even where the length is 0. The sheet and
- *   the space do not overlap. `line`, `length` and `start` do not overlap each other, the sheet or the space.
+ * - It takes every sheet, every space and every line number: of these a caller checks nothing beforehand.
+ * - It never allocates, never traps, always returns and keeps no state between calls. Several threads may call it at
+ *   once, on the same sheet too, as long as nothing writes to a sheet while a call reads it, and nothing else reads or
+ *   writes the space, *line, *length and *start of a call while it runs.
+ * - Asked of memory:
+ *   - `sheet` points to sheet_length bytes that can be read, and `space` to space_length bytes that can be read and
+ *     written. They need no alignment, and the space may hold anything, as malloc leaves it.
+ *   - Where a length is 0, nothing is read or written at its pointer, which may be any pointer, null too.
+ *   - `line`, `length` and `start` are never null. Each points to a size_t, which may hold anything, aligned as such.
+ *   - No length is above PTRDIFF_MAX. No array in memory is longer, so nothing that a caller has is ruled out.
+ *   - The space, *line, *length and *start overlap neither each other nor the sheet.
  * - docs/BENCHMARK.md has the stack that it needs.
  */
 #ifndef WILTORESH_H

@@ -1,10 +1,12 @@
-"""The Python module: the examples of document 01, the works in example/, lent spaces and places of lines."""
+"""The Python module: the examples of document 01, the works in example/, lent spaces, threads and places of lines."""
 
 import doctest
 import pickle
+import sys
 import unittest
 from concurrent.futures import ThreadPoolExecutor
 from pathlib import Path
+from threading import Event, Thread
 
 import wiltoresh
 from wiltoresh import Answer, Refusal, line_place, longest, report, report_into
@@ -26,6 +28,9 @@ REPORT = b"""R,1,2131800,0,0,2131800,0,1492260,0,2131.800,0.000
 R,2,561000,200000,0,1390540,225000,1390540,225000,3476.350,562.500
 T,3107800,3107800,0,0
 """
+
+# 65,536 bytes in 4,096 lines: 6 + 4,094 x 16 + 26 bytes.
+GREATEST = b"P,1,5\n" + b"E,0,1,1000000,0\n" * 4094 + b"E,0,1,10000000000,2000000\n"
 
 # Number, line, the line's text and the sheet.
 REFUSED = [
@@ -76,14 +81,13 @@ class Document(unittest.TestCase):
                 self.assertEqual(space, patterned(longest()))
 
     def test_greatest_sheet_is_accepted(self) -> None:
-        sheet = b"P,1,5\n" + b"E,0,1,1000000,0\n" * 4094 + b"E,0,1,10000000000,2000000\n"
-        self.assertEqual((len(sheet), sheet.count(b"\n")), (65536, 4096))
+        self.assertEqual((len(GREATEST), GREATEST.count(b"\n")), (65536, 4096))
         # 10,000,000,000 kWh at 2,000,000 mg are 20,000,000,000,000 g, a fifth of that for each kilogram.
         expected = (
             b"R,1,0,20000000000000,0,0,20000000000000,0,20000000000000,0.000,4000000000000.000\n"
             b"T,20000000000000,20000000000000,0,0\n"
         )
-        self.assertEqual(report(sheet), expected)
+        self.assertEqual(report(GREATEST), expected)
 
     def test_examples_in_the_docstrings(self) -> None:
         result = doctest.testmod(wiltoresh, verbose=False)
@@ -121,10 +125,38 @@ class Space(unittest.TestCase):
         space.extend(b"#")
         self.assertEqual(space, b"R,1,0,0,0,0,0,0,0,0.000,0.000\nT,0,0,0,0\n#")
 
-    def test_several_threads_at_once(self) -> None:
+
+class Threads(unittest.TestCase):
+    def test_same_sheet(self) -> None:
         with ThreadPoolExecutor(8) as threads:
             for given in threads.map(report, [WORKS] * 500):
                 self.assertEqual(given, WORKS_REPORT)
+
+    def test_other_sheets_and_spaces_of_their_own(self) -> None:
+        sheets = [WORKS, SHEET] + [sheet for _, _, _, sheet in REFUSED]
+        expected = [self.answer(sheet) for sheet in sheets]
+        with ThreadPoolExecutor(8) as threads:
+            self.assertEqual(list(threads.map(self.answer, sheets * 50)), expected * 50)
+
+    def answer(self, sheet: bytes) -> tuple[Answer, bytearray]:
+        space = patterned(5000)
+        return report_into(sheet, space), space
+
+    def test_other_threads_run_during_a_call(self) -> None:
+        begun, ran = Event(), Event()
+        other = Thread(target=lambda: begun.wait() and ran.set())
+        other.start()
+        interval = sys.getswitchinterval()
+        # From here on this thread runs until it gives up Python's lock by itself, which only a call does.
+        sys.setswitchinterval(1000)
+        begun.set()
+        calls = 0
+        while calls < 10000 and not ran.is_set():
+            report(GREATEST)
+            calls += 1
+        sys.setswitchinterval(interval)
+        other.join()
+        self.assertLess(calls, 10000)
 
 
 class Lines(unittest.TestCase):

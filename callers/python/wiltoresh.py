@@ -5,7 +5,13 @@
     b'R,1,0,0,0,0,0,0,0,0.000,0.000\\nT,0,0,0,0\\n'
 
 The functions are those of a shared object that `callers/run` builds from libwiltoresh.a. The environment variable
-WILTORESH_LIBRARY names another one. They keep no state and may be called from several threads at once.
+WILTORESH_LIBRARY names another one.
+
+Threads: every function here may be called from several threads at once, on the same sheet too. The shared object keeps no
+state, each call has memory of its own for its answer, and a sheet is bytes, which do not change. While the shared object
+works, ctypes lets the other threads run. So report_into asks one thing of its caller: until it returns, no other thread
+reads or writes the space, nor lends it to a second call. The space keeps its length meanwhile: to change it raises
+BufferError.
 """
 
 import ctypes
@@ -111,7 +117,7 @@ def report_into(sheet: bytes, space: bytearray) -> Answer:
     """The whole job in a lent space: the report of an accepted sheet stands at the start of the space.
 
     Every byte past the report is as it was. For a refusal, 16 (the space is too short) included, every byte of the
-    space is as it was. A space of longest() bytes is never refused by 16.
+    space is as it was. A space of longest() bytes is never refused by 16. No other thread may use the space meanwhile.
 
     >>> report_into(b"P,1,5\\n", bytearray(39))
     Answer(number=16, line=0, length=0)

@@ -84,8 +84,9 @@ pub fn report(sheet: &[u8]) -> Result<Report, Refusal<'_>> {
 pub fn report_into(sheet: &[u8], space: &mut [u8]) -> Answer {
     let mut line = 0;
     let mut length = 0;
-    // SAFETY: the pointers come from references, so they are valid for their lengths and not null; `sheet` is lent for
-    // reading and the other three for writing, so none of them overlap.
+    // SAFETY: the pointers come from references, so they are valid for their lengths, aligned, and no length is above
+    // isize::MAX; `sheet` is lent for reading and the other three for writing, so none of them overlap. A slice of no
+    // bytes has a pointer to no memory, which the header allows.
     let number = unsafe {
         ffi::wiltoresh_report(
             sheet.as_ptr(),
@@ -117,7 +118,7 @@ pub fn report_into(sheet: &[u8], space: &mut [u8]) -> Answer {
 /// ```
 pub fn line_place(sheet: &[u8], line: usize) -> Range<usize> {
     let mut start = 0;
-    // SAFETY: the pointers come from references, so they are valid and not null, and `start` is no part of the sheet.
+    // SAFETY: the pointers come from references, as above, and `start` is no part of the sheet.
     let length = unsafe { ffi::wiltoresh_line(sheet.as_ptr(), sheet.len(), line, &mut start) };
     start..start + length
 }
