@@ -83,7 +83,7 @@ first-field (byte ∷ next ∷ bytes) h = absurd (never h)
 -- ---- what is spelt holds no comma and no LF but those that part fields and lines
 
 -- this byte is none of these
-unfoldable lacks : (byte : ℕ) → List ℕ → Bool
+unfoldable pub lacks : (byte : ℕ) → List ℕ → Bool
 lacks byte [] = true
 lacks byte (b ∷ bs) = not (eqb b byte) && lacks byte bs
 
@@ -96,13 +96,13 @@ module _ (byte b : ℕ) (bs : List ℕ) (h : lacks byte (b ∷ bs) ≡ true) whe
   unfolding lacks
   lacks-rest = and-both (not (eqb b byte)) (lacks byte bs) h .1
 
-lacks-append : (byte : ℕ) (a b : List ℕ) → lacks byte a ≡ true → lacks byte b ≡ true → lacks byte (a ++ b) ≡ true
+pub lacks-append : (byte : ℕ) (a b : List ℕ) → lacks byte a ≡ true → lacks byte b ≡ true → lacks byte (a ++ b) ≡ true
 unfolding lacks
 lacks-append byte [] b h k = k
 lacks-append byte (x ∷ a) b h k = simp (lacks-first byte x a h) (lacks-append byte a b (lacks-rest byte x a h) k)
 
 module _ (byte : ℕ) (low : byte < 45) where
-  digits-lack : (bs : List ℕ) → allDigits bs ≡ true → lacks byte bs ≡ true
+  pub digits-lack : (bs : List ℕ) → allDigits bs ≡ true → lacks byte bs ≡ true
   unfolding lacks allDigits
   digits-lack [] h = refl
   digits-lack (b ∷ bs) h =
@@ -120,16 +120,35 @@ letter-lacks : (byte low : ℕ) → isLetter byte ≡ true → low ≤ COMMA →
 unfolding lacks
 letter-lacks byte low h below = let above = ltb-true COMMA byte h in simp (ne-eqb byte low (λ e. omega arith))
 
-fields-lack-LF : (fs : List Field) → lacks LF (spellFields fs) ≡ true
-unfolding spellFields lacks
-fields-lack-LF [] = refl
-fields-lack-LF (f ∷ fs) = lacks-append LF (spellField f) (spellFields fs) (field-lacks LF (omega arith) f) (fields-lack-LF fs)
+-- this byte is in none of these fields
+unfoldable pub allLack : (byte : ℕ) → List (List ℕ) → Bool
+allLack byte [] = true
+allLack byte (f ∷ fs) = lacks byte f && allLack byte fs
 
-line-lacks-LF : (r : Record) → isLetter (r .letter) ≡ true → lacks LF (spellLine r) ≡ true
-unfolding spellLine
-line-lacks-LF r h = lacks-append LF (r .letter ∷ []) (spellFields (r .said)) (letter-lacks (r .letter) LF h (omega arith)) (fields-lack-LF (r .said))
+pub spelt-lack : {A : Type 0} (byte : ℕ) (spell : A → List ℕ) → ((a : A) → lacks byte (spell a) ≡ true) → (l : List A)
+    → allLack byte (map spell l) ≡ true
+unfolding allLack
+spelt-lack byte spell h [] = refl
+spelt-lack byte spell h (a ∷ l) = rw (h a) (spelt-lack byte spell h l)
 
--- ---- READ AFTER SPELT: a line
+-- ---- fields joined by commas, and parted again
+
+-- fields, each with the comma before it
+unfoldable pub afterCommas : List (List ℕ) → List ℕ
+afterCommas [] = []
+afterCommas (f ∷ fs) = COMMA ∷ (f ++ afterCommas fs)
+
+-- fields with commas between them
+abbrev pub joinFields : List (List ℕ) → List ℕ
+joinFields [] = []
+joinFields (f ∷ fs) = f ++ afterCommas fs
+
+pub commas-lack-LF : (fs : List (List ℕ)) → allLack LF fs ≡ true → lacks LF (afterCommas fs) ≡ true
+unfolding afterCommas lacks allLack
+commas-lack-LF [] h = refl
+commas-lack-LF (f ∷ fs) h =
+    let q = and-both (lacks LF f) (allLack LF fs) h in
+    lacks-append LF f (afterCommas fs) (q .0) (commas-lack-LF fs (q .1))
 
 fields-then : (a rest : List ℕ) → lacks COMMA a ≡ true → fieldsOf (a ++ (COMMA ∷ rest)) ≡ a ∷ fieldsOf rest
 unfolding fieldsOf
@@ -141,38 +160,14 @@ unfolding fieldsOf
 fields-last [] h = refl
 fields-last (b ∷ a) h = simp (lacks-first COMMA b a h) (ap (beforeField b) (fields-last a (lacks-rest COMMA b a h)))
 
-fields-spelt : (a : List ℕ) (fs : List Field) → lacks COMMA a ≡ true → fieldsOf (a ++ spellFields fs) ≡ a ∷ map spellField fs
-unfolding spellFields
-fields-spelt a [] h = ap fieldsOf (append-nil a) ∙ fields-last a h
-fields-spelt a (f ∷ fs) h =
-    fields-then a (spellField f ++ spellFields fs) h
-    ∙ ap (λ (l : List (List ℕ)). a ∷ l) (fields-spelt (spellField f) fs (field-lacks COMMA (omega arith) f))
-
-read-fields : (fs : List Field) → allPlain fs ≡ true → map fieldOf (map spellField fs) ≡ fs
-unfolding allPlain
-read-fields [] h = refl
-read-fields (f ∷ fs) h =
-    let q = and-both (plain f) (allPlain fs) h in
-    ap₂ (λ (x : Field) (l : List Field). x ∷ l) (read-field f (q .0)) (read-fields fs (q .1))
-
-pub read-line : (r : Record) (ended : Bool) → readable r ≡ true → recordOf (line (spellLine r) ended) ≡ r
-unfolding recordOf spellLine
-read-line r ended h =
-    let q = and-both (isLetter (r .letter)) (allPlain (r .said)) h in
-    ap recordFrom (fields-spelt (r .letter ∷ []) (r .said) (letter-lacks (r .letter) COMMA (q .0) (omega arith)))
-    ∙ ap (λ (fs : List Field). record { letter = r .letter; said = fs }) (read-fields (r .said) (q .1))
-
--- ---- SPELT AFTER READ: a line
-
--- fields, each with the comma before it
-unfoldable afterCommas : List (List ℕ) → List ℕ
-afterCommas [] = []
-afterCommas (f ∷ fs) = COMMA ∷ (f ++ afterCommas fs)
-
--- fields with commas between them
-abbrev joinFields : List (List ℕ) → List ℕ
-joinFields [] = []
-joinFields (f ∷ fs) = f ++ afterCommas fs
+-- fields that hold no comma, joined, are parted into themselves
+pub fields-joined : (first : List ℕ) (fs : List (List ℕ)) → lacks COMMA first ≡ true → allLack COMMA fs ≡ true
+    → fieldsOf (first ++ afterCommas fs) ≡ first ∷ fs
+unfolding afterCommas allLack
+fields-joined first [] h k = ap fieldsOf (append-nil first) ∙ fields-last first h
+fields-joined first (f ∷ fs) h k =
+    let q = and-both (lacks COMMA f) (allLack COMMA fs) k in
+    fields-then first (f ++ afterCommas fs) h ∙ ap (λ (l : List (List ℕ)). first ∷ l) (fields-joined f fs (q .0) (q .1))
 
 -- a line has at least one field
 comma-before : (bytes : List ℕ) → afterCommas (fieldsOf bytes) ≡ COMMA ∷ joinFields (fieldsOf bytes)
@@ -191,7 +186,8 @@ unfolding afterCommas
 join-before b [] = refl
 join-before b (f ∷ fs) = refl
 
-join-fields : (bytes : List ℕ) → joinFields (fieldsOf bytes) ≡ bytes
+-- the fields of a line, joined, are the line
+pub join-fields : (bytes : List ℕ) → joinFields (fieldsOf bytes) ≡ bytes
 unfolding fieldsOf afterCommas
 join-fields [] = refl
 join-fields (b ∷ bytes) = go (join-fields bytes) (eqb b COMMA) refl
@@ -200,6 +196,43 @@ join-fields (b ∷ bytes) = go (join-fields bytes) (eqb b COMMA) refl
         → joinFields (cond t ([] ∷ fieldsOf bytes) (beforeField b (fieldsOf bytes))) ≡ b ∷ bytes
     go ih true e = comma-before bytes ∙ ap₂ (λ (x : ℕ) (l : List ℕ). x ∷ l) (sym (eqb-true b COMMA e)) ih
     go ih false e = join-before b (fieldsOf bytes) ∙ ap (λ (l : List ℕ). b ∷ l) ih
+
+-- ---- a record's spelling
+
+fields-spelt : (fs : List Field) → spellFields fs ≡ afterCommas (map spellField fs)
+unfolding spellFields afterCommas
+fields-spelt [] = refl
+fields-spelt (f ∷ fs) = ap (λ (l : List ℕ). COMMA ∷ (spellField f ++ l)) (fields-spelt fs)
+
+fields-lack : (byte : ℕ) → byte < 45 → (fs : List Field) → allLack byte (map spellField fs) ≡ true
+fields-lack byte low = spelt-lack byte spellField (field-lacks byte low)
+
+line-lacks-LF : (r : Record) → isLetter (r .letter) ≡ true → lacks LF (spellLine r) ≡ true
+unfolding spellLine
+line-lacks-LF r h =
+    lacks-append LF (r .letter ∷ []) (spellFields (r .said)) (letter-lacks (r .letter) LF h (omega arith))
+    (rw (fields-spelt (r .said)) (commas-lack-LF (map spellField (r .said)) (fields-lack LF (omega arith) (r .said))))
+
+-- ---- READ AFTER SPELT: a line
+
+read-fields : (fs : List Field) → allPlain fs ≡ true → map fieldOf (map spellField fs) ≡ fs
+unfolding allPlain
+read-fields [] h = refl
+read-fields (f ∷ fs) h =
+    let q = and-both (plain f) (allPlain fs) h in
+    ap₂ (λ (x : Field) (l : List Field). x ∷ l) (read-field f (q .0)) (read-fields fs (q .1))
+
+pub read-line : (r : Record) (ended : Bool) → readable r ≡ true → recordOf (line (spellLine r) ended) ≡ r
+unfolding recordOf spellLine
+read-line r ended h =
+    let q = and-both (isLetter (r .letter)) (allPlain (r .said)) h in
+    ap recordFrom
+    (ap (λ (l : List ℕ). fieldsOf (r .letter ∷ l)) (fields-spelt (r .said))
+    ∙ fields-joined (r .letter ∷ []) (map spellField (r .said)) (letter-lacks (r .letter) COMMA (q .0) (omega arith))
+    (fields-lack COMMA (omega arith) (r .said)))
+    ∙ ap (λ (fs : List Field). record { letter = r .letter; said = fs }) (read-fields (r .said) (q .1))
+
+-- ---- SPELT AFTER READ: a line
 
 spell-fields : (fs : List (List ℕ)) → allPlain (map fieldOf fs) ≡ true → spellFields (map fieldOf fs) ≡ afterCommas fs
 unfolding spellFields afterCommas allPlain
@@ -226,7 +259,7 @@ one-record a b p q e = sym (spell-line a p) ∙ ap spellLine e ∙ spell-line b 
 
 -- ---- READ AFTER SPELT: a sheet
 
-lines-then : (a rest : List ℕ) → lacks LF a ≡ true → linesOf (a ++ (LF ∷ rest)) ≡ line a true ∷ linesOf rest
+pub lines-then : (a rest : List ℕ) → lacks LF a ≡ true → linesOf (a ++ (LF ∷ rest)) ≡ line a true ∷ linesOf rest
 unfolding linesOf
 lines-then [] rest h = refl
 lines-then (b ∷ a) rest h = simp (lacks-first LF b a h) (ap (beforeLine b) (lines-then a rest (lacks-rest LF b a h)))
