@@ -1,5 +1,7 @@
 -- The worked examples of specs/Cases: one theorem that the checker computes over each table. Assumes nothing.
+use mathlib.Core.Bool.{Bool, true, false}
 use mathlib.Core.List.{map}
+use mathlib.Core.Option.{Option, none, some}
 use mathlib.Core.Path.{_≡_, refl}
 use Rattle.quantity.specs.Rounding.{round}
 use Rattle.quantity.specs.Streams.{combustionGrams, processGrams, carbonGrams, streamGrams, fossilGrams}
@@ -22,9 +24,10 @@ use Rattle.attribution.specs.Attribution.{electricityOut, boughtDirect, boughtI
 use Rattle.attribution.specs.Reckoning.{kilosOf, processCount, output, kilosBetween, directPool, indirectPool, directLeft}
 use Rattle.attribution.specs.Reckoning.{indirectLeft, totalLeft, entered, totalRaised, uncredited, rowsTo, reckoning}
 use Rattle.attribution.specs.Verdict.{rowsGrams, anyFrom, figureTooLarge, reckonerChecks}
-use Rattle.report.specs.Report.{specific, reportOf}
+use Rattle.report.specs.Report.{Report, specific, reportOf}
 use Rattle.report.specs.Spelling.{threeDigits, spellFigure, spellFigures, spellLines, rowLine, totalLine, reportBytes}
-use Rattle.report.specs.Cases.{printed, given}
+use Rattle.report.specs.Reading.{isSigned, isSpecific, pass, isRow, isTotals, readLines, readReport}
+use Rattle.report.specs.Cases.{printed, given, readings}
 use Rattle.decimal.specs.Text.{bytes}
 use Rattle.quantity.specs.Limits.{limits}
 
@@ -55,3 +58,11 @@ unfolding given allChecks verdict outcome
     rowsGrams anyFrom figureTooLarge reckonerChecks
     specific reportOf threeDigits spellFigure spellFigures spellLines rowLine totalLine reportBytes sheetReport carbon
 given-hold = refl
+
+abbrev isRead : Option Report → Bool
+isRead none = false
+isRead (some r) = true
+
+pub readings-hold : map (λ e. isRead (readReport (bytes (e .text)))) readings ≡ map (λ e. e .isReport) readings
+unfolding readings allDigits isNumber valueFrom linesOf fieldsOf isSigned isSpecific pass isRow isTotals readLines readReport
+readings-hold = refl

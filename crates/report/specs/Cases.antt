@@ -1,4 +1,5 @@
--- Examples. The whole job: what `carbon` prints, and the outcome with a report space.
+-- Examples. The whole job: what `carbon` prints, and the outcome with a report space. Bytes that are read as a report, and others.
+use mathlib.Core.Bool.{Bool, true, false}
 use mathlib.Core.List.{List, [], _∷_}
 use Prim.Native.Nat.{ℕ}
 use Prim.Native.String.{String}
@@ -54,4 +55,48 @@ given =
     ∷ gives "P,1,0\n" "......................................................" 7 1 0 "......................................................"
     ∷ gives "P,1,0\n" ".." 7 1 0 ".."
     ∷ gives "" "" 14 0 0 ""
+    ∷ []
+
+-- ---- bytes read as a report
+
+pub record Reading : Type 0 where
+  pub text : String
+  pub isReport : Bool
+
+abbrev pub reads : String → Bool → Reading
+reads text isReport = record { text = text; isReport = isReport }
+
+unfoldable pub readings : List Reading
+readings =
+    reads "R,1,12,1,0,12,1,12,1,1.500,0.125\nR,2,0,0,0,0,0,0,0,0.000,0.000\nT,13,13,0,0\n" true
+    ∷ reads "T,0,-1,1,0\n" true
+    -- a leading zero, in a whole figure, a process number and a whole part
+    ∷ reads "T,0,00,0,0\n" false
+    ∷ reads "R,01,12,1,0,12,1,12,1,1.500,0.125\nT,13,13,0,0\n" false
+    ∷ reads "R,1,12,1,0,12,1,12,1,01.500,0.125\nT,13,13,0,0\n" false
+    -- `-` before 0, and before a figure other than `entered`
+    ∷ reads "T,0,-0,0,0\n" false
+    ∷ reads "T,-1,0,0,0\n" false
+    -- two digits and four behind the dot, another byte among them, no dot, no whole part, a dot in a whole figure
+    ∷ reads "R,1,12,1,0,12,1,12,1,1.50,0.125\nT,13,13,0,0\n" false
+    ∷ reads "R,1,12,1,0,12,1,12,1,1.5000,0.125\nT,13,13,0,0\n" false
+    ∷ reads "R,1,12,1,0,12,1,12,1,1.a50,0.125\nT,13,13,0,0\n" false
+    ∷ reads "R,1,12,1,0,12,1,12,1,1500,0.125\nT,13,13,0,0\n" false
+    ∷ reads "R,1,12,1,0,12,1,12,1,.500,0.125\nT,13,13,0,0\n" false
+    ∷ reads "T,13.000,13,0,0\n" false
+    -- a field too few, a field too many, an empty field
+    ∷ reads "R,1,12,1,0,12,1,12,1,1.500\nT,13,13,0,0\n" false
+    ∷ reads "T,13,13,0,0,0\n" false
+    ∷ reads "T,13,13,0,\n" false
+    -- rows that do not start at 1, and rows with a gap
+    ∷ reads "R,2,12,1,0,12,1,12,1,1.500,0.125\nT,13,13,0,0\n" false
+    ∷ reads "R,1,12,1,0,12,1,12,1,1.500,0.125\nR,3,0,0,0,0,0,0,0,0.000,0.000\nT,13,13,0,0\n" false
+    -- no totals, totals before a row, totals twice
+    ∷ reads "R,1,12,1,0,12,1,12,1,1.500,0.125\n" false
+    ∷ reads "T,13,13,0,0\nR,1,12,1,0,12,1,12,1,1.500,0.125\n" false
+    ∷ reads "T,13,13,0,0\nT,13,13,0,0\n" false
+    -- no LF at the end, an empty line behind it, no bytes
+    ∷ reads "T,13,13,0,0" false
+    ∷ reads "T,13,13,0,0\n\n" false
+    ∷ reads "" false
     ∷ []
