@@ -25,6 +25,7 @@ use Rattle.ledger.specs.declared.Entry.{Entry}
 use Rattle.moves.specs.Moved.{betweenProcesses}
 use Rattle.entries.specs.Weighed.{streamOf, heatOf, chargeOf, creditOf, electricityOf, boughtDirectOf, boughtIndirectOf}
 use Rattle.entries.specs.Entries.{entryOf, entry}
+use Rattle.attribution.specs.Accepted.{ValidOf, Valid}
 use Rattle.entries.proofs.Ranges.{in-rules}
 use Rattle.entries.proofs.Streams.{process-range, stream-range}
 
@@ -92,20 +93,6 @@ parts-of i r = go (kind r) refl
     go Unknown e = simp e (omega (arith, none))
 
 -- ---- a valid line makes an even entry
-
--- what acceptance shows of a line of each kind, in a works of n processes
-abbrev pub ValidOf : (n : ℕ) → Kind → Record → Type 0
-ValidOf n Process r = Unit {0}
-ValidOf n SourceStream r = (1 ≤ process r) × (process r ≤ n)
-ValidOf n MeasurableHeat r = (from r ≤ n) × (to r ≤ n)
-ValidOf n WasteGas r = (from r ≤ n) × (to r ≤ n) × (from r ≡ to r → ⊥) × (1 ≤ numberAt r 2)
-ValidOf n Electricity r = (from r ≤ n) × (to r ≤ n)
-ValidOf n BoughtPrecursor r = (1 ≤ process r) × (process r ≤ n)
-ValidOf n OwnGood r = (1 ≤ from r) × (from r < to r) × (to r ≤ n)
-ValidOf n Unknown r = ⊥
-
-abbrev pub Valid : (n : ℕ) → Record → Type 0
-Valid n r = ValidOf n (kind r) r
 
 pub record Even (n : ℕ) (e : Entry) : Type 0 where
   pub charged-in : e .charged ≤ n

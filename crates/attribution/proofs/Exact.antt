@@ -20,26 +20,14 @@ use Rattle.ledger.specs.Raising.{gramsAdded}
 use Rattle.entries.specs.Weighed.{chargeOf, creditOf}
 use Rattle.attribution.specs.Attribution.{balance, raised}
 use Rattle.attribution.specs.Reckoning.{processCount, totalLeft, entered, totalRaised, uncredited}
+pub use Rattle.attribution.specs.Exact.{GasBetween, NothingAdded}
+use Rattle.attribution.specs.Accepted.{Valid, Accepted}
 use Rattle.attribution.proofs.Differences.{diff, diff-pos, diff-eq, diff-inj, diff-ge, diff-lt}
 use Rattle.goods.proofs.Sums.{sum-zero-at, sum-zero-all}
 use Rattle.entries.specs.Entries.{entry}
-use Rattle.attribution.proofs.EveryKind.{parts-of, Valid, gas-credited}
+use Rattle.attribution.proofs.EveryKind.{parts-of, gas-credited}
 use Rattle.attribution.proofs.Entries.{figures, entered-is}
-use Rattle.attribution.proofs.Valid.{Accepted}
 use Rattle.attribution.proofs.Works.{conserved}
-
--- ---- the condition
-
--- a W line between two processes
-pub record GasBetween (r : Record) : Type 0 where
-  pub gas : is WasteGas r ≡ true
-  pub from-process : 1 ≤ from r
-  pub to-process : 1 ≤ to r
-
--- no process balance is below zero, and no waste gas passed between two processes
-pub record NothingAdded (rs : List Record) : Type 0 where
-  pub balances : (k : ℕ) → 1 ≤ k → k ≤ processCount rs → pos 0 ≤ℤ balance rs k
-  pub no-gas : All (λ r. ¬ GasBetween r) rs
 
 -- ---- uncredited is 0 exactly when no waste gas passed between two processes
 

@@ -9,19 +9,17 @@ use Rattle.quantity.specs.Limits.{Limits}
 use Rattle.lines.specs.Records.{recordsOf}
 use Rattle.sheet.specs.Verdict.{sheetChecks}
 use Rattle.sheet.specs.Verdict.{All, Passes}
-use Rattle.sheet.proofs.Passed.{sheet-passed}
-use Rattle.attribution.specs.Reckoning.{Totals, reckoning}
-use Rattle.attribution.proofs.Valid.{Accepted, sheet-accepted}
+pub use Rattle.attribution.specs.Reckoning.{totalsOf}
+use Rattle.attribution.specs.Reckoning.{reckoning}
+use Rattle.attribution.specs.Exact.{NothingAdded}
+use Rattle.attribution.specs.Accepted.{Accepted}
+use Rattle.attribution.proofs.Valid.{sheet-accepted}
 use Rattle.attribution.proofs.Works.{left-is-entered-raised-uncredited}
-use Rattle.attribution.proofs.Exact.{NothingAdded, left-equals-entered, otherwise-greater}
-
--- the totals of a sheet
-abbrev pub totalsOf : (sheet : List ℕ) → Totals
-totalsOf sheet = reckoning (recordsOf sheet) .totals
+use Rattle.attribution.proofs.Exact.{left-equals-entered, otherwise-greater}
 
 module _ (limits : Limits) (sheet : List ℕ) (passed : All Passes (sheetChecks limits sheet)) where
   ok : Accepted (recordsOf sheet)
-  ok = sheet-accepted limits sheet (sheet-passed limits sheet passed)
+  ok = sheet-accepted limits sheet passed
 
   -- left = entered + raised + uncredited
   pub third-property : pos (totalsOf sheet .left)

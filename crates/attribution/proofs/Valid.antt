@@ -14,13 +14,14 @@ use Rattle.lines.specs.Lines.{Line, linesOf}
 use Rattle.lines.specs.Records.{Record, recordOf, recordsOf, numberAt}
 use Rattle.sheet.specs.Kinds.{Process, OwnGood, kind, is}
 use Rattle.sheet.specs.Refusals.{anyOf, sumOf, process, from, to, outputIn, takenIn, hasProcess, processNotNext, outputExceeded}
-use Rattle.sheet.specs.Verdict.{All}
-use Rattle.sheet.proofs.Passed.{PassedLine, PassedLines, PassedSheet}
+use Rattle.sheet.specs.Verdict.{sheetChecks, All, Passes}
+use Rattle.sheet.proofs.Passed.{PassedLine, PassedLines, sheet-passed}
 use Rattle.goods.specs.Sums.{sumTo, onlyAt}
+use Rattle.attribution.specs.Accepted.{Valid, Accepted}
 use Rattle.attribution.specs.Reckoning.{kilosOf, processCount, output, kilosBetween}
 use Rattle.goods.proofs.Sums.{sum-none, at-sum-le}
 use Rattle.attribution.proofs.Sums.{sum-swap, of-le}
-use Rattle.attribution.proofs.EveryKind.{Valid, valid-of}
+use Rattle.attribution.proofs.EveryKind.{valid-of}
 
 -- ---- processes are numbered 1 .. processCount
 
@@ -119,21 +120,19 @@ kilos-taken n i rs =
 
 -- ---- what the reckoner may rely on
 
-pub record Accepted (rs : List Record) : Type 0 where
-  pub valid : All (Valid (processCount rs)) rs
-  pub within : (i : ℕ) → sumTo (processCount rs) (kilosBetween rs i) ≤ output rs i
-
 none-numbered : Numbered []
 unfolding anyOf
 none-numbered p h = absurd (never h)
 
-pub sheet-accepted : (limits : Limits) (sheet : List ℕ) → PassedSheet limits sheet → Accepted (recordsOf sheet)
+pub sheet-accepted : (limits : Limits) (sheet : List ℕ) → All Passes (sheetChecks limits sheet) → Accepted (recordsOf sheet)
 unfolding recordsOf output sumOf processCount
-sheet-accepted limits sheet f = record {
-  valid = lines-valid limits [] (linesOf sheet) (processCount (map recordOf (linesOf sheet))) none-numbered (omega arith) (f .lines);
-  within = λ i. omega (
-    arith,
-    kilos-taken (processCount (map recordOf (linesOf sheet))) i (map recordOf (linesOf sheet)),
-    lines-within limits [] (linesOf sheet) (λ j. omega arith) (f .lines) i,
-  );
-}
+sheet-accepted limits sheet passed =
+    let f = sheet-passed limits sheet passed in
+    record {
+      valid = lines-valid limits [] (linesOf sheet) (processCount (map recordOf (linesOf sheet))) none-numbered (omega arith) (f .lines);
+      within = λ i. omega (
+        arith,
+        kilos-taken (processCount (map recordOf (linesOf sheet))) i (map recordOf (linesOf sheet)),
+        lines-within limits [] (linesOf sheet) (λ j. omega arith) (f .lines) i,
+      );
+    }

@@ -4,7 +4,7 @@ use mathlib.Core.List.{List, [], _∷_, _++_}
 use Prim.Native.Nat.{ℕ, zero, suc, _+_, _-_}
 use lib.Dec.{eqb}
 use lib.IntN.{ℤ, pos, _+ℤ_, _-ℤ_}
-use Rattle.lines.specs.Records.{Record, numberAt}
+use Rattle.lines.specs.Records.{Record, numberAt, recordsOf}
 use Rattle.sheet.specs.Refusals.{sumOf, from, to, outputIn}
 use Rattle.sheet.specs.Kinds.{Process, OwnGood, is}
 use Rattle.goods.specs.Sums.{sumTo, onlyAt}
@@ -118,3 +118,7 @@ module _ (records : List Record) where
       uncredited = uncredited records;
     };
   }
+
+-- the totals of a sheet
+abbrev pub totalsOf : (sheet : List ℕ) → Totals
+totalsOf sheet = reckoning (recordsOf sheet) .totals

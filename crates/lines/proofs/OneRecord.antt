@@ -8,7 +8,7 @@ use native.Mathlib.Nat.{suc-add}
 use native.Mathlib.Numerals.{one-add}
 use native.Mathlib.Omega.{arith}
 use borrow.Author.Tests.{ne-eqb, eqb-true, leb-true, ltb-true, not-true}
-use lib.Dec.{eqb, leb, ltb}
+use lib.Dec.{eqb, leb}
 use lib.ListN.{length, take, drop}
 use Rattle.decimal.specs.Number.{isDigit, allDigits, isNumber, value}
 use Rattle.decimal.specs.Spelling.{spelling}
@@ -18,29 +18,7 @@ use Rattle.decimal.proofs.OneSpelling.{spelling-number, number-spelling}
 use Rattle.lines.specs.Lines.{LF, COMMA, Line, line, beforeLine, linesOf, beforeField, fieldsOf, lineBytes, lineStart}
 use Rattle.lines.specs.Records.{letterIn, Field, number, dash, other, isDash, fieldOf, Record, recordFrom, recordOf, recordsOf}
 use Rattle.lines.specs.Spelling.{spellField, spellFields, spellLine, spellSheet}
-
--- ---- what can be spelt and read again
-
--- a number or `-`
-abbrev pub plain : Field → Bool
-plain (number n) = true
-plain dash = true
-plain other = false
-
-unfoldable pub allPlain : List Field → Bool
-allPlain [] = true
-allPlain (f ∷ fs) = plain f && allPlain fs
-
--- a byte above the comma, as every letter is
-abbrev pub isLetter : (byte : ℕ) → Bool
-isLetter byte = ltb COMMA byte
-
-abbrev pub readable : Record → Bool
-readable r = isLetter (r .letter) && allPlain (r .said)
-
-unfoldable pub allReadable : List Record → Bool
-allReadable [] = true
-allReadable (r ∷ rs) = readable r && allReadable rs
+use Rattle.lines.specs.Spelling.{plain, allPlain, isLetter, readable, allReadable}
 
 -- each line has its LF and a readable record
 unfoldable pub allRead : List Line → Bool

@@ -11,11 +11,10 @@ use lib.ListN.{length}
 use Rattle.lines.specs.Lines.{linesOf}
 use Rattle.lines.specs.Records.{recordsOf}
 use Rattle.quantity.specs.Limits.{limits, wholeGrams}
-use Rattle.sheet.specs.Verdict.{Check, check, Verdict, accepted, refused, firstOf, linesChecks, sheetChecks, numberOf, lineOf}
+use Rattle.sheet.specs.Verdict.{Check, check, Verdict, accepted, refused, firstOf, linesChecks, sheetChecks, numberOf, lineOf, All, Passes}
 use Rattle.checks.specs.Numbers.{refusalNumber}
 use Rattle.checks.specs.declared.refusals.Refusal.{Refusal}
 use Rattle.sheet.proofs.First.{accepted-passes}
-use Rattle.sheet.proofs.Passed.{lines-passed}
 use Rattle.ledger.specs.Columns.{BEFORE_ENTRY}
 use Rattle.closing.specs.Closing.{Closed, anyLarge}
 use Rattle.closing.specs.declared.Closing.{Closing}
@@ -26,7 +25,8 @@ use Rattle.reading.specs.Gathered.{ReadOf}
 use Rattle.reckoner.specs.Reckoned.{FiguresOf, Reckoned, refusedBy}
 use Rattle.reckoner.specs.Closed.{acceptedAs, largeTotals, large}
 use Rattle.reading.specs.declared.Read.{Read}
-use Rattle.attribution.proofs.Valid.{Accepted, sheet-accepted}
+use Rattle.attribution.specs.Accepted.{Accepted}
+use Rattle.attribution.proofs.Valid.{sheet-accepted}
 use Rattle.attribution.proofs.Works.{left-is-entered-raised-uncredited}
 use Rattle.sheet.proofs.First.{first-rest, first-here, numbered}
 use Rattle.reckoner.proofs.Fits.{none-large, RowBelow, row-below, left-total, no-figure-too-large}
@@ -80,12 +80,12 @@ module _ (sheet : List ℕ) where
     -- ---- an answer that accepts
 
     module _ (zero : refusalNumber (read .refusal) ≡ 0) where
+      passed : All Passes (sheetChecks limits sheet)
+      unfolding sheetChecks
+      passed = (le-ltb (limits .bytes) (length sheet) short, (ne-eqb (length sheet) 0 some, accepted-passes _ (of .passed zero)))
+
       pub ok : Accepted (recordsOf sheet)
-      ok = sheet-accepted limits sheet record {
-        short = short;
-        some = some;
-        lines = lines-passed limits [] (linesOf sheet) (accepted-passes _ (of .passed zero));
-      }
+      ok = sheet-accepted limits sheet passed
 
       all-pass : firstOf (reckonerChecks limits sheet) ≡ accepted
       unfolding firstOf

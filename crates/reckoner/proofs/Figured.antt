@@ -20,7 +20,7 @@ use Rattle.reading.specs.Gathered.{Gathered}
 use Rattle.reckoner.specs.Reckoned.{FiguresOf}
 use Rattle.reckoner.specs.Closed.{acceptedAs}
 use Rattle.works.specs.declared.Works.{Works}
-use Rattle.attribution.proofs.Valid.{Accepted}
+use Rattle.attribution.specs.Accepted.{Accepted}
 use Rattle.reckoner.proofs.Ready.{own-direct-is, own-indirect-is, raised-is, pairs-is, raised-sum}
 
 module _ (rs : List Record) (w : Works) (kilos : List ℕ) (g : Gathered rs w kilos) (ok : Accepted rs) (c : Closing)

@@ -23,7 +23,7 @@ use Rattle.attribution.specs.Verdict.{rowGrams, rowsGrams, anyFrom, figureTooLa
 use Rattle.reading.specs.Gathered.{Gathered}
 use Rattle.works.specs.declared.Works.{Works}
 use Rattle.attribution.proofs.Entries.{forward}
-use Rattle.attribution.proofs.Valid.{Accepted}
+use Rattle.attribution.specs.Accepted.{Accepted}
 
 -- ---- figures below a limit
 

@@ -16,7 +16,7 @@ use Rattle.attribution.specs.Reckoning.{processCount, kilosBetween, totalRaised
 use Rattle.reading.specs.Gathered.{Gathered}
 use Rattle.works.specs.declared.Works.{Works}
 use Rattle.attribution.proofs.Entries.{forward}
-use Rattle.attribution.proofs.Valid.{Accepted}
+use Rattle.attribution.specs.Accepted.{Accepted}
 
 module _ (rs : List Record) (w : Works) (kilos : List ℕ) (g : Gathered rs w kilos) (ok : Accepted rs) where
   abbrev n : ℕ

@@ -10,11 +10,11 @@ use Rattle.lines.specs.Records.{Field, number, dash, other, Record, recordOf, r
 use Rattle.sheet.specs.Kinds.{Rule, rulesOf}
 use Rattle.sheet.specs.Verdict.{accepted, firstOf, sheetChecks}
 use Rattle.sheet.specs.Ranges.{KeepsRules}
-use Rattle.lines.specs.Spelling.{spellSheet}
+use Rattle.lines.specs.Spelling.{spellSheet, allPlain}
 use Rattle.sheet.proofs.First.{accepted-passes}
 use Rattle.sheet.proofs.Passed.{PassedLines, sheet-passed}
 use Rattle.sheet.proofs.Table.{known-letter}
-use Rattle.lines.proofs.OneRecord.{allPlain, allRead, spell-sheet}
+use Rattle.lines.proofs.OneRecord.{allRead, spell-sheet}
 
 -- fields that keep their rules are numbers or `-`
 fields-plain : (rules : List Rule) (fields : List Field) → KeepsRules rules fields → allPlain fields ≡ true

@@ -10,7 +10,7 @@ use lib.ListN.{length, getD}
 use Rattle.decimal.proofs.Bools.{never, and-both}
 use Rattle.lines.specs.Records.{Field, number, dash, other, Record}
 use Rattle.lines.specs.Words.{WORDS, CAP}
-use Rattle.lines.proofs.OneRecord.{isLetter}
+use Rattle.lines.specs.Spelling.{isLetter}
 use Rattle.quantity.specs.Limits.{Limits}
 use Rattle.sheet.specs.Kinds.{Kind, Process, SourceStream, MeasurableHeat, WasteGas, Electricity, BoughtPrecursor}
 use Rattle.sheet.specs.Kinds.{OwnGood, Unknown, letter, kinds, kindAmong, kindOf, kind, is, Rule, exactly}
