@@ -1,14 +1,16 @@
--- THE BOUND: what goes into all pools is at most what the lines put into processes, and what is raised at most what they take from them.
--- Stated over entries, for any kinds of lines. Assumes nothing.
+-- THE BOUND: what goes into all pools is at most what the lines put into processes, and what is raised at most what they take from them;
+-- and a sum over lines of small grams is small. Stated over entries, for any kinds of lines. Assumes nothing.
 use mathlib.Core.List.{List, [], _∷_}
 use Prim.Native.Nat.{ℕ, _+_, _*_, _≤_}
 use native.Mathlib.Omega.{arith}
 use lib.ListN.{length}
+use Rattle.quantity.specs.Limits.{lineGrams}
 use Rattle.lines.specs.Records.{Record}
 use Rattle.sheet.specs.Refusals.{sumOf}
 use Rattle.sheet.specs.Verdict.{All}
 use Rattle.goods.specs.Sums.{sumTo, onlyAt}
 use Rattle.goods.proofs.Sums.{sum-add, sum-ext, sum-le, at-sum-le}
+use Rattle.ledger.specs.Ledger.{SmallGrams}
 use Rattle.attribution.specs.Attribution.{direct, indirect, raised, boughtDirect, boughtIndirect}
 use Rattle.attribution.specs.Reckoning.{processCount, totalRaised}
 use Rattle.entries.specs.Entries.{entry}
@@ -59,8 +61,9 @@ raised-le rs =
       over-all (processCount rs) (λ r. entry r .credited) (λ r. entry r .credit .0) rs,
     )
 
--- a figure of at most `step` a line
-pub sum-within : (step : ℕ) (f : Record → ℕ) (rs : List Record) → All (λ r. f r ≤ step) rs → sumOf f rs ≤ length rs * step
+-- a figure of at most `lineGrams` a line
+pub sum-within : (f : Record → ℕ) → ((r : Record) → SmallGrams (entry r) → f r ≤ lineGrams)
+    → (rs : List Record) → All (λ r. SmallGrams (entry r)) rs → sumOf f rs ≤ length rs * lineGrams
 unfolding sumOf
-sum-within step f [] h = omega arith
-sum-within step f (r ∷ rs) h = omega (arith, h .0, sum-within step f rs (h .1))
+sum-within f h [] s = omega arith
+sum-within f h (r ∷ rs) s = omega (arith, h r (s .0), sum-within f h rs (s .1))

@@ -4,7 +4,7 @@ use mathlib.Core.Bool.{Bool, true, false}
 use Prim.Native.Nat.{ℕ, zero, suc, _+_, _-_, _≤_, _<_}
 use native.Mathlib.Omega.{arith}
 use lib.Dec.{ltb}
-use lib.IntN.{ℤ, pos, negsuc, negℤ, subℕ, _+ℤ_, _-ℤ_, +ℤ-assoc, +ℤ-comm, negℤ-+ℤ, negℤ-negℤ}
+use lib.IntN.{ℤ, pos, negsuc, negℤ, natAbs, subℕ, _+ℤ_, _-ℤ_, +ℤ-assoc, +ℤ-comm, negℤ-+ℤ, negℤ-negℤ}
 use borrow.Author.Tests.{ltb-true, ltb-false, lt-ltb, le-ltb}
 use Rattle.ledger.specs.Raising.{raisedToZero, gramsAdded}
 
@@ -33,6 +33,14 @@ added-diff a b = go (ltb a b) refl
     go : (t : Bool) → ltb a b ≡ t → gramsAdded (diff a b) ≡ b - a
     go true e = let h = ltb-true a b e in ap gramsAdded (diff-lt a b h) ∙ omega arith
     go false e = let h = ltb-false a b e in ap gramsAdded (diff-ge a b h) ∙ omega arith
+
+-- its sign aside, it is no greater than the greater of the two
+pub diff-size : (a b limit : ℕ) → a < limit → b < limit → natAbs (diff a b) < limit
+diff-size a b limit p q = go (ltb a b) refl
+  where
+    go : (t : Bool) → ltb a b ≡ t → natAbs (diff a b) < limit
+    go true e = let h = ltb-true a b e in rw (diff-lt a b h) (omega arith)
+    go false e = rw (diff-ge a b (ltb-false a b e)) (omega arith)
 
 -- every integer is such a difference
 pub diff-of : (z : ℤ) → diff (raisedToZero z) (gramsAdded z) ≡ z

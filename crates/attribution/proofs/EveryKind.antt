@@ -19,7 +19,7 @@ use Rattle.sheet.specs.Ranges.{KeepsRanges}
 use Rattle.sheet.proofs.Table.{is-kind}
 use Rattle.goods.specs.Sums.{onlyAt}
 use Rattle.goods.proofs.Sums.{at-le, at-none, at-outside}
-use Rattle.ledger.specs.Ledger.{Small}
+use Rattle.ledger.specs.Ledger.{SmallGrams, Small}
 use Rattle.ledger.specs.Raising.{raisedToZero, gramsAdded}
 use Rattle.ledger.specs.declared.Entry.{Entry}
 use Rattle.moves.specs.Moved.{betweenProcesses}
@@ -187,7 +187,7 @@ between-le f t grams = go (eqb 0 f || eqb 0 t)
 abbrev MOST : ℕ
 MOST = 1000000000000000
 
-module _ (r : Record) (keeps : KeepsRanges limits r) where
+module _ (limits : Limits) (r : Record) (keeps : KeepsRanges limits r) where
   stream-le : kind r ≡ SourceStream → (raisedToZero (streamOf r) ≤ MOST) × (gramsAdded (streamOf r) ≤ MOST)
   unfolding streamOf
   stream-le e = parts-le (streamOf r) MOST (rw (is-kind SourceStream r e) (stream-small _ _ _ _ _ _ (stream-range limits r keeps e)))
@@ -220,43 +220,55 @@ module _ (r : Record) (keeps : KeepsRanges limits r) where
         weight-small _ _ 10000000000 100000000 MOST mass (n .1 .1 .1 .0 refl .high) (omega arith),
       )
 
-small-of : (j : Kind) (r : Record) → kind r ≡ j → KeepsRanges limits r → Small (entryOf j r)
-unfolding rules
-small-of Process r e keeps = omega arith
-small-of SourceStream r e keeps =
-    let p = process-range limits r keeps e in
-    let g = stream-le r keeps e in
-    omega arith
-small-of MeasurableHeat r e keeps =
-    let n = in-rules limits r keeps MeasurableHeat e in
-    omega (arith, n .0 refl .high, n .1 .0 refl .high, heat-le r keeps e, at-le 0 (from r) (heatOf r), at-le 0 (to r) (heatOf r))
-small-of WasteGas r e keeps =
-    let n = in-rules limits r keeps WasteGas e in
-    let g = gas-le r keeps e in
+grams-of : (limits : Limits) (j : Kind) (r : Record) → kind r ≡ j → KeepsRanges limits r → SmallGrams (entryOf j r)
+grams-of limits Process r e keeps = omega arith
+grams-of limits SourceStream r e keeps = let g = stream-le limits r keeps e in omega arith
+grams-of limits MeasurableHeat r e keeps =
+    omega (arith, heat-le limits r keeps e, at-le 0 (from r) (heatOf r), at-le 0 (to r) (heatOf r))
+grams-of limits WasteGas r e keeps =
+    let g = gas-le limits r keeps e in
     omega (
       arith,
-      n .0 refl .high,
-      n .1 .0 refl .high,
       at-le 0 (from r) (chargeOf r),
       at-le 0 (to r) (creditOf r),
       between-le (from r) (to r) (chargeOf r - creditOf r),
     )
+grams-of limits Electricity r e keeps =
+    omega (arith, electricity-le limits r keeps e, at-le 0 (from r) (electricityOf r), at-le 0 (to r) (electricityOf r))
+grams-of limits BoughtPrecursor r e keeps = let g = bought-le limits r keeps e in omega arith
+grams-of limits OwnGood r e keeps = omega arith
+grams-of limits Unknown r e keeps = omega arith
+
+-- whatever the limits
+pub small-grams : (limits : Limits) (r : Record) → KeepsRanges limits r → SmallGrams (entry r)
+small-grams limits r keeps = grams-of limits (kind r) r refl keeps
+
+-- and its processes have a place
+small-of : (j : Kind) (r : Record) → kind r ≡ j → KeepsRanges limits r → Small (entryOf j r)
+unfolding rules
+small-of Process r e keeps = let g = grams-of limits Process r e keeps in omega arith
+small-of SourceStream r e keeps =
+    let p = process-range limits r keeps e in
+    let g = grams-of limits SourceStream r e keeps in
+    omega arith
+small-of MeasurableHeat r e keeps =
+    let n = in-rules limits r keeps MeasurableHeat e in
+    let g = grams-of limits MeasurableHeat r e keeps in
+    omega (arith, n .0 refl .high, n .1 .0 refl .high)
+small-of WasteGas r e keeps =
+    let n = in-rules limits r keeps WasteGas e in
+    let g = grams-of limits WasteGas r e keeps in
+    omega (arith, n .0 refl .high, n .1 .0 refl .high)
 small-of Electricity r e keeps =
     let n = in-rules limits r keeps Electricity e in
-    omega (
-      arith,
-      n .0 refl .high,
-      n .1 .0 refl .high,
-      electricity-le r keeps e,
-      at-le 0 (from r) (electricityOf r),
-      at-le 0 (to r) (electricityOf r),
-    )
+    let g = grams-of limits Electricity r e keeps in
+    omega (arith, n .0 refl .high, n .1 .0 refl .high)
 small-of BoughtPrecursor r e keeps =
     let n = in-rules limits r keeps BoughtPrecursor e in
-    let g = bought-le r keeps e in
+    let g = grams-of limits BoughtPrecursor r e keeps in
     omega (arith, n .0 refl .high)
-small-of OwnGood r e keeps = omega arith
-small-of Unknown r e keeps = omega arith
+small-of OwnGood r e keeps = let g = grams-of limits OwnGood r e keeps in omega arith
+small-of Unknown r e keeps = let g = grams-of limits Unknown r e keeps in omega arith
 
 pub small-entry : (r : Record) → KeepsRanges limits r → Small (entry r)
 small-entry r keeps = small-of (kind r) r refl keeps

@@ -9,3 +9,4 @@ pub mod Works
 pub mod Exact
 pub mod Sheet
 pub mod Bounds
+pub mod RowFifteen

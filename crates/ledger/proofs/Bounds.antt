@@ -8,10 +8,11 @@ use native.Mathlib.Omega.{arith}
 use lib.IntN.{ℤ, pos, natAbs, _+ℤ_, _-ℤ_}
 use lib.ListN.{length, getD, set, replicate, length-set, length-replicate}
 use lib.Seq.{getD-set-same, getD-set-other, set-out}
+use Rattle.quantity.specs.Limits.{lineGrams}
 use Rattle.goods.specs.ByProcess.{SIZE}
 use Rattle.ledger.specs.declared.Entry.{Entry}
 use Rattle.ledger.specs.declared.Ledger.{Ledger}
-use Rattle.ledger.specs.Ledger.{STEP, added, chargedAndCredited, booked, start, Small, Within, Sized}
+use Rattle.ledger.specs.Ledger.{added, chargedAndCredited, booked, start, Small, Within, Sized}
 use Rattle.ledger.proofs.Sizes.{size-plus, size-minus, size-moved}
 
 -- ---- every place of an array
@@ -78,17 +79,17 @@ within-more p w = record {
   uncredited = le-trans (w .uncredited) p;
 }
 
-pub within-booked : (k : ℕ) (l : Ledger) (e : Entry) → Within k l → Small e → Within (k + STEP) (booked l e)
+pub within-booked : (k : ℕ) (l : Ledger) (e : Entry) → Within k l → Small e → Within (k + lineGrams) (booked l e)
 unfolding booked
 within-booked k l e w s = record {
   balances = λ i.
-      omega (arith, each-credited k (l .balances .0) (w .balances) (e .charged) (e .charge .0) (e .credited) (e .credit .0) i, s .moved);
-  indirect = each-added k STEP (l .indirect .0) (e .user) (e .electricity .0) (omega (arith, s .into)) (w .indirect);
-  bought-direct = each-added k STEP (l .«bought_direct» .0) (e .buyer) (e .direct .0) (omega (arith, s .into)) (w .bought-direct);
-  bought-indirect = each-added k STEP (l .«bought_indirect» .0) (e .buyer) (e .indirect .0) (omega (arith, s .into)) (w .bought-indirect);
+      omega (arith, each-credited k (l .balances .0) (w .balances) (e .charged) (e .charge .0) (e .credited) (e .credit .0) i, s .grams .moved);
+  indirect = each-added k lineGrams (l .indirect .0) (e .user) (e .electricity .0) (omega (arith, s .grams .into)) (w .indirect);
+  bought-direct = each-added k lineGrams (l .«bought_direct» .0) (e .buyer) (e .direct .0) (omega (arith, s .grams .into)) (w .bought-direct);
+  bought-indirect = each-added k lineGrams (l .«bought_indirect» .0) (e .buyer) (e .indirect .0) (omega (arith, s .grams .into)) (w .bought-indirect);
   entered =
-      omega (arith, size-moved STEP (l .totals .entered .0) (e .entering .0) (e .leaving .0) (s .entering) (s .leaving), w .entered);
-  uncredited = omega (arith, w .uncredited, s .uncredited);
+      omega (arith, size-moved lineGrams (l .totals .entered .0) (e .entering .0) (e .leaving .0) (s .grams .entering) (s .grams .leaving), w .entered);
+  uncredited = omega (arith, w .uncredited, s .grams .uncredited);
 }
 
 -- ---- lengths

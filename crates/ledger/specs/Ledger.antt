@@ -4,15 +4,12 @@ use Prim.Native.Nat.{ℕ, _+_, _≤_, _<_}
 use lib.IntN.{ℤ, pos, natAbs, _+ℤ_, _-ℤ_}
 use mathlib.Core.Path.{_≡_}
 use lib.ListN.{length, getD, set, replicate}
+use Rattle.quantity.specs.Limits.{lineGrams}
 use Rattle.goods.specs.ByProcess.{SIZE}
 use Rattle.ledger.specs.declared.Entry.{Entry}
 use Rattle.ledger.specs.declared.Ledger.{Ledger}
 use Rattle.ledger.specs.declared.Totals.{Totals}
 use Rattle.ledger.specs.Columns.{AtMost, SizeAtMost, BEFORE_ENTRY}
-
--- the most grams that one line adds to the figures
-abbrev pub STEP : ℕ
-STEP = 2000000000000000
 
 -- an amount added in one place
 abbrev pub added : List ℕ → (i amount : ℕ) → List ℕ
@@ -48,19 +45,23 @@ start = record {
   totals = nothingMoved;
 }
 
--- an entry of processes that have a place, and of grams that a line can have
+-- an entry of grams that a line can have
+pub record SmallGrams (e : Entry) : Type 0 where
+  -- what goes into processes
+  pub into : e .charge .0 + e .electricity .0 + e .direct .0 + e .indirect .0 ≤ lineGrams
+  -- what moves in a balance
+  pub moved : e .charge .0 + e .credit .0 ≤ lineGrams
+  pub entering : e .entering .0 ≤ lineGrams
+  pub leaving : e .leaving .0 ≤ lineGrams
+  pub uncredited : e .uncredited .0 ≤ lineGrams
+
+-- and of processes that have a place
 pub record Small (e : Entry) : Type 0 where
   pub charged-in : e .charged < SIZE
   pub credited-in : e .credited < SIZE
   pub user-in : e .user < SIZE
   pub buyer-in : e .buyer < SIZE
-  -- what goes into processes
-  pub into : e .charge .0 + e .electricity .0 + e .direct .0 + e .indirect .0 ≤ STEP
-  -- what moves in a balance
-  pub moved : e .charge .0 + e .credit .0 ≤ STEP
-  pub entering : e .entering .0 ≤ STEP
-  pub leaving : e .leaving .0 ≤ STEP
-  pub uncredited : e .uncredited .0 ≤ STEP
+  pub grams : SmallGrams e
 
 -- every figure is at most k in size
 pub record Within (k : ℕ) (l : Ledger) : Type 0 where

@@ -2,11 +2,11 @@
 ghost use mathlib.Core.Path.{_≡_};
 ghost use lib.IntN.{pos, natAbs, _+ℤ_, _-ℤ_};
 ghost use Prim.Native.Nat.{_+_, _≤_, _<_};
-ghost use Rattle.quantity.specs.Limits.{wholeGrams};
+ghost use Rattle.quantity.specs.Limits.{wholeGrams, lineGrams};
 ghost use Rattle.goods.specs.Sums.{sumTo};
 ghost use Rattle.goods.specs.ByProcess.{SIZE, figures, Column};
 ghost use Rattle.goods.specs.Settling.{NoFigures};
-ghost use Rattle.ledger.specs.Ledger.{STEP, Small, added, chargedAndCredited};
+ghost use Rattle.ledger.specs.Ledger.{Small, added, chargedAndCredited};
 ghost use Rattle.ledger.specs.Raising.{gramsAdded, raisedToZero};
 ghost use Rattle.ledger.specs.Columns.{NoneOutside, BEFORE_ENTRY, SizeAtMost, RoomAt, FitTogether, signedFigures, together};
 use goods::GramsByProcess;
@@ -52,8 +52,8 @@ pub struct Ledger {
 
 // A signed figure with grams added and grams taken off. A balance may have had its charge already.
 fn changed(held: SignedGrams, more: Grams, less: Grams) -> SignedGrams
-    requires { ⌜ natAbs (held .0) ≤ BEFORE_ENTRY + STEP ⌝ }
-    requires { ⌜ (more .0 ≤ STEP) × (less .0 ≤ STEP) ⌝ }
+    requires { ⌜ natAbs (held .0) ≤ BEFORE_ENTRY + lineGrams ⌝ }
+    requires { ⌜ (more .0 ≤ lineGrams) × (less .0 ≤ lineGrams) ⌝ }
     ensures { λ r. ⌜ r .0 ≡ held .0 +ℤ pos (more .0) -ℤ pos (less .0) ⌝ }
 {
     let plus = more.0;

@@ -16,3 +16,7 @@ limits = record { processes = 16; bytes = 65536; lines = 4096 }
 -- row 15: whole-gram figures of the report stay below it
 abbrev pub wholeGrams : ℕ
 wholeGrams = 2 ^ 63
+
+-- the most grams that one line moves: a B line of 10,000,000,000 kg at 100,000,000 mg per kg has half of them direct and half indirect
+abbrev pub lineGrams : ℕ
+lineGrams = 2000000000000000

@@ -10,7 +10,6 @@ use Rattle.ledger.specs.declared.Ledger.{Ledger}
 use Rattle.attribution.specs.Reckoning.{processCount, kilosBetween}
 use Rattle.attribution.proofs.Differences.{diff}
 use Rattle.attribution.proofs.EveryKind.{plus, minus}
-use Rattle.attribution.proofs.Bounds.{intoProcesses, outOfProcesses}
 use Rattle.reading.proofs.HeldLedger.{HeldLedger}
 use Rattle.reading.proofs.HeldGoods.{HeldGoods}
 
@@ -37,8 +36,6 @@ module _ (above rs : List Record) (same : SameSums above rs) where
     entered = h .entered ∙ ap₂ diff (same _) (same _);
     uncredited = h .uncredited ∙ same _;
     within = rw same-length at (h .within);
-    into = omega (arith, h .into, same-length, same intoProcesses);
-    out = omega (arith, h .out, same-length, same outOfProcesses);
   }
 
   pub goods-same : (count : ℕ) (outputs taken kilos : List ℕ) → HeldGoods above count outputs taken kilos → HeldGoods rs count outputs taken kilos

@@ -16,11 +16,10 @@ use Rattle.lines.specs.Records.{Record, recordsOf}
 use Rattle.ledger.proofs.Bounds.{within-more}
 use Rattle.sheet.specs.Refusals.{sumOf, anyOf, process, outputIn}
 use Rattle.attribution.specs.Attribution.{indirect}
-use Rattle.attribution.specs.Reckoning.{processCount, output}
+use Rattle.attribution.specs.Reckoning.{output}
 use Rattle.reading.specs.Gathered.{Gathered}
 use Rattle.works.specs.declared.Works.{Works}
 use Rattle.attribution.proofs.Entries.{balance-is, entered-is, figures}
-use Rattle.attribution.proofs.Bounds.{into-pools-le, raised-le}
 use Rattle.reading.proofs.HeldLedger.{HeldLedger}
 use Rattle.reading.proofs.HeldGoods.{HeldGoods}
 use Rattle.reading.proofs.AnyOrder.{SameSums, same-length, ledger-same, goods-same}
@@ -70,6 +69,4 @@ module _ (sheet : List ℕ) (w : Works) (kilos : List ℕ) (rd : Reading (linesO
     made = made;
     outputs-small = λ i. omega (arith, goods .output-at i, goods .outputs-small i, few);
     room = within-more (omega (arith, few)) (ledger .within);
-    into = omega (arith, into-pools-le (processCount rs) rs, ledger .into, few);
-    raised = omega (arith, raised-le rs, ledger .out, few);
   }

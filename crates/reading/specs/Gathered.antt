@@ -1,21 +1,20 @@
 -- For the code only: what reading all lines of a sheet leaves: the first refusal, or document 01's figures, process by process.
 use mathlib.Core.Path.{_≡_}
 use mathlib.Core.List.{List, []}
-use Prim.Native.Nat.{ℕ, _+_, _≤_, _<_}
+use Prim.Native.Nat.{ℕ, _≤_, _<_}
 use lib.ListN.{length, replicate}
 use Rattle.lines.specs.Lines.{linesOf}
 use Rattle.lines.specs.Records.{Record, recordsOf}
 use Rattle.goods.specs.ByProcess.{SIZE, figures}
 use Rattle.goods.specs.Settling.{PAIRS, pairs}
-use Rattle.goods.specs.Sums.{sumTo}
 use Rattle.ledger.specs.Columns.{signedFigures}
 use Rattle.ledger.specs.Ledger.{Room}
-use Rattle.quantity.specs.Limits.{limits, wholeGrams}
+use Rattle.quantity.specs.Limits.{limits}
 use Rattle.sheet.specs.Verdict.{accepted, firstOf, linesChecks, numberOf, lineOf}
 use Rattle.checks.specs.Numbers.{refusalNumber}
 use Rattle.checks.specs.declared.refusals.Refusal.{Refusal}
-use Rattle.attribution.specs.Attribution.{balance, direct, indirect, boughtDirect, boughtIndirect}
-use Rattle.attribution.specs.Reckoning.{processCount, output, kilosBetween, entered, totalRaised, uncredited}
+use Rattle.attribution.specs.Attribution.{balance, indirect, boughtDirect, boughtIndirect}
+use Rattle.attribution.specs.Reckoning.{processCount, output, kilosBetween, entered, uncredited}
 use Rattle.works.specs.Works.{MOST, worksAtStart}
 use Rattle.works.specs.declared.Works.{Works}
 use Rattle.reading.specs.declared.Read.{Read}
@@ -33,11 +32,9 @@ pub record Gathered (rs : List Record) (w : Works) (kilos : List ℕ) : Type 0 w
   pub entered-is : w .ledger .totals .entered .0 ≡ entered rs
   pub uncredited-is : w .ledger .totals .uncredited .0 ≡ uncredited rs
   pub made : (i : ℕ) → 1 ≤ i → i ≤ w .count → 1 ≤ output rs i
-  -- the bounds that keep every sum inside 63 bits
+  -- the bounds that keep every figure inside 63 bits
   pub outputs-small : (i : ℕ) → output rs i ≤ MOST
   pub room : Room (w .ledger)
-  pub into : sumTo (processCount rs) (λ k. direct rs k + boughtDirect rs k) + sumTo (processCount rs) (λ k. indirect rs k + boughtIndirect rs k) < wholeGrams
-  pub raised : totalRaised rs < wholeGrams
 
 -- rows 2 to 13 over all lines, and what is gathered where none applies. Where one does nothing is, and the kilograms are of no account
 pub record ReadOf (sheet kilos : List ℕ) (r : Read) : Type 0 where

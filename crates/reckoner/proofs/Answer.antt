@@ -1,8 +1,9 @@
 -- The answers of the reckoner: the verdict of rows 1 to 15, from what the code finds. Assumes nothing.
 use mathlib.Core.Path.{_≡_, refl, sym, ap, ap₂, _∙_}
 use mathlib.Core.Bool.{false}
-use mathlib.Core.List.{List, [], _∷_, _++_}
-use Prim.Native.Nat.{ℕ, _-_, _≤_, _<_}
+use mathlib.Core.List.{List, []}
+use Prim.Native.Nat.{ℕ, zero, suc, _-_, _≤_, _<_}
+use native.Mathlib.Nat.{le-refl}
 use native.Mathlib.Omega.{arith}
 use borrow.Author.Tests.{lt-ltb, le-ltb, eq-eqb, ne-eqb, lt-leb}
 use lib.IntN.{ℤ, pos, negsuc, negℤ, natAbs, _+ℤ_}
@@ -11,53 +12,56 @@ use lib.ListN.{length}
 use Rattle.lines.specs.Lines.{linesOf}
 use Rattle.lines.specs.Records.{recordsOf}
 use Rattle.quantity.specs.Limits.{limits, wholeGrams}
-use Rattle.sheet.specs.Verdict.{Check, check, Verdict, accepted, refused, firstOf, linesChecks, sheetChecks, numberOf, lineOf, All, Passes}
+use Rattle.sheet.specs.Verdict.{Verdict, accepted, refused, firstOf, linesChecks, sheetChecks, numberOf, lineOf, All, Passes}
 use Rattle.checks.specs.Numbers.{refusalNumber}
 use Rattle.checks.specs.declared.refusals.Refusal.{Refusal}
-use Rattle.sheet.proofs.First.{accepted-passes}
-use Rattle.ledger.specs.Columns.{BEFORE_ENTRY}
-use Rattle.closing.specs.Closing.{Closed, anyLarge}
+use Rattle.sheet.proofs.First.{accepted-passes, numbered}
+use Rattle.closing.specs.Closing.{Ready, Closed, anyLarge}
 use Rattle.closing.specs.declared.Closing.{Closing}
 use Rattle.goods.specs.ByProcess.{figures, Column}
-use Rattle.attribution.specs.Reckoning.{reckoning}
-use Rattle.attribution.specs.Verdict.{figureTooLarge, reckonerChecks}
+use Rattle.attribution.specs.Verdict.{reckonerChecks}
 use Rattle.reading.specs.Gathered.{ReadOf}
 use Rattle.reckoner.specs.Reckoned.{FiguresOf, Reckoned, refusedBy}
 use Rattle.reckoner.specs.Closed.{acceptedAs, largeTotals, large}
 use Rattle.reading.specs.declared.Read.{Read}
 use Rattle.attribution.specs.Accepted.{Accepted}
 use Rattle.attribution.proofs.Valid.{sheet-accepted}
+use Rattle.attribution.proofs.RowFifteen.{SumsBelow, RowBelow, row-below, left-below-limit, sheet-sums, fifteen-never-given}
 use Rattle.attribution.proofs.Works.{left-is-entered-raised-uncredited}
-use Rattle.sheet.proofs.First.{first-rest, first-here, numbered}
-use Rattle.reckoner.proofs.Fits.{none-large, RowBelow, row-below, left-total, no-figure-too-large}
+use Rattle.reckoner.proofs.Ready.{ready}
 use Rattle.reckoner.proofs.Figured.{figures-is}
 
--- ---- the verdict of rows 1 to 15
+-- ---- row 15 over an array
+
+none-large : (count : ℕ) (f : ℕ → ℕ) → ((k : ℕ) → 1 ≤ k → k ≤ count → f k < wholeGrams) → anyLarge count f ≡ false
+unfolding anyLarge
+none-large zero f h = refl
+none-large (suc n) f h =
+    rw (none-large n f (λ k l m. h k l (omega arith)), lt-leb wholeGrams (f (suc n)) (h (suc n) (omega arith) (le-refl (suc n))))
+
+-- ---- the verdict of rows 1 to 15 is that of rows 1 to 14
 
 module _ (sheet : List ℕ) where
-  abbrev last : List Check
-  last = check 15 0 (figureTooLarge (reckoning (recordsOf sheet))) ∷ []
-
-  too-many : limits .bytes < length sheet → firstOf (reckonerChecks limits sheet) ≡ refused 1 0
-  unfolding reckonerChecks sheetChecks firstOf
+  too-many : limits .bytes < length sheet → firstOf (sheetChecks limits sheet) ≡ refused 1 0
+  unfolding sheetChecks firstOf
   too-many h = rw (lt-ltb (limits .bytes) (length sheet) h)
 
-  none-at-all : length sheet ≤ limits .bytes → length sheet ≡ 0 → firstOf (reckonerChecks limits sheet) ≡ refused 14 0
-  unfolding reckonerChecks sheetChecks firstOf
+  none-at-all : length sheet ≤ limits .bytes → length sheet ≡ 0 → firstOf (sheetChecks limits sheet) ≡ refused 14 0
+  unfolding sheetChecks firstOf
   none-at-all h e = rw (le-ltb (limits .bytes) (length sheet) h, eq-eqb (length sheet) 0 e)
 
   by-lines : length sheet ≤ limits .bytes → (length sheet ≡ 0 → ⊥)
-      → firstOf (reckonerChecks limits sheet) ≡ firstOf (linesChecks limits [] (linesOf sheet) ++ last)
-  unfolding reckonerChecks sheetChecks firstOf
+      → firstOf (sheetChecks limits sheet) ≡ firstOf (linesChecks limits [] (linesOf sheet))
+  unfolding sheetChecks firstOf
   by-lines h e = rw (le-ltb (limits .bytes) (length sheet) h, ne-eqb (length sheet) 0 e)
 
   -- ---- an answer that refuses
 
-  refused-answer : (refusal : Refusal) (line : ℕ) → firstOf (reckonerChecks limits sheet) ≡ refused (refusalNumber refusal) line
+  refused-answer : (refusal : Refusal) (line : ℕ) → firstOf (sheetChecks limits sheet) ≡ refused (refusalNumber refusal) line
       → (refusalNumber refusal ≡ 0 → ⊥) → Reckoned sheet (refusedBy refusal line)
   refused-answer refusal line v some = record {
-    number = sym (ap numberOf v);
-    line-is = sym (ap lineOf v);
+    number = sym (ap numberOf (fifteen-never-given sheet ∙ v));
+    line-is = sym (ap lineOf (fifteen-never-given sheet ∙ v));
     passed = λ z. absurd (some z);
     figured = λ z. absurd (some z);
     refused = λ n. refl;
@@ -74,24 +78,28 @@ module _ (sheet : List ℕ) where
     refused-line h =
         let v : Verdict = firstOf (linesChecks limits [] (linesOf sheet)) in
         refused-answer (read .refusal) (read .line)
-        (by-lines short some ∙ first-here (linesChecks limits [] (linesOf sheet)) last (refusalNumber (read .refusal)) (read .line)
-        (numbered v (λ z. h (of .number ∙ z)) ∙ ap₂ refused (sym (of .number)) (sym (of .line)))) h
+        (by-lines short some ∙ numbered v (λ z. h (of .number ∙ z)) ∙ ap₂ refused (sym (of .number)) (sym (of .line))) h
 
     -- ---- an answer that accepts
 
     module _ (zero : refusalNumber (read .refusal) ≡ 0) where
-      passed : All Passes (sheetChecks limits sheet)
-      unfolding sheetChecks
-      passed = (le-ltb (limits .bytes) (length sheet) short, (ne-eqb (length sheet) 0 some, accepted-passes _ (of .passed zero)))
+      verdict : firstOf (sheetChecks limits sheet) ≡ accepted
+      verdict = by-lines short some ∙ of .passed zero
 
-      pub ok : Accepted (recordsOf sheet)
+      passed : All Passes (sheetChecks limits sheet)
+      passed = accepted-passes (sheetChecks limits sheet) verdict
+
+      ok : Accepted (recordsOf sheet)
       ok = sheet-accepted limits sheet passed
 
+      sums : SumsBelow (recordsOf sheet)
+      sums = sheet-sums limits (omega arith) sheet passed
+
+      pub can-close : Ready (read .works .ledger) (read .works .outputs .0) kilos (read .works .count)
+      can-close = ready (recordsOf sheet) (read .works) kilos (of .gathered zero) ok sums
+
       all-pass : firstOf (reckonerChecks limits sheet) ≡ accepted
-      unfolding firstOf
-      all-pass =
-          by-lines short some ∙ first-rest (linesChecks limits [] (linesOf sheet)) last (of .passed zero)
-          ∙ rw (no-figure-too-large (recordsOf sheet) ok (read .works) kilos (of .gathered zero))
+      all-pass = fifteen-never-given sheet ∙ verdict
 
       module _ (c : Closing) (closed : Closed (read .works .ledger) (read .works .outputs .0) kilos (read .works .count) c) where
         figured : FiguresOf (recordsOf sheet) (acceptedAs (read .works) c)
@@ -130,19 +138,18 @@ module _ (sheet : List ℕ) where
               below (figured .indirect-lefts) (λ k l m. row k l m .indirect-lefts),
             ) totals
           where
-            row : (k : ℕ) → 1 ≤ k → k ≤ read .works .count → RowBelow (recordsOf sheet) ok (read .works) kilos (of .gathered zero) k
-            row k l m = row-below (recordsOf sheet) ok (read .works) kilos (of .gathered zero) k l (omega (arith, of .gathered zero .count))
+            row : (k : ℕ) → 1 ≤ k → k ≤ read .works .count → RowBelow (recordsOf sheet) k
+            row k l m = row-below (recordsOf sheet) ok sums k l (omega (arith, of .gathered zero .count))
 
-            least : (z : ℤ) → natAbs z ≤ BEFORE_ENTRY → leZ z (negℤ (pos wholeGrams)) ≡ false
+            least : (z : ℤ) → natAbs z < wholeGrams → leZ z (negℤ (pos wholeGrams)) ≡ false
             least (pos n) h = refl
             least (negsuc n) h = lt-leb (wholeGrams - 1) n (omega arith)
 
             totals : let t = read .works .ledger .totals in largeTotals (c .left .0) (t .entered .0) (c .«total_raised» .0) (t .uncredited .0) ≡ false
             totals =
-                let g = of .gathered zero in
                 rw (
-                  lt-leb wholeGrams (c .left .0) (omega (arith, figured .left-is, left-total (recordsOf sheet) ok (read .works) kilos g)),
-                  least (read .works .ledger .totals .entered .0) (g .room .entered),
-                  lt-leb wholeGrams (c .«total_raised» .0) (omega (arith, figured .raised-is, g .raised)),
-                  lt-leb wholeGrams (read .works .ledger .totals .uncredited .0) (omega (arith, g .room .uncredited)),
+                  lt-leb wholeGrams (c .left .0) (omega (arith, figured .left-is, left-below-limit (recordsOf sheet) ok sums)),
+                  least (read .works .ledger .totals .entered .0) (figured .entered-small),
+                  lt-leb wholeGrams (c .«total_raised» .0) (omega (arith, figured .raised-is, sums .raised)),
+                  lt-leb wholeGrams (read .works .ledger .totals .uncredited .0) (omega (arith, figured .uncredited-is, sums .uncredited)),
                 )

@@ -1,5 +1,4 @@
 -- Laws that the crates above cite.
 pub mod Ready
-pub mod Fits
 pub mod Figured
 pub mod Answer

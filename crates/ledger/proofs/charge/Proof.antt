@@ -8,8 +8,9 @@ use lib.IntN.{ℤ, pos, natAbs, _+ℤ_, _-ℤ_, +ℤ-idr}
 use lib.ListN.{getD, set}
 use mir.Syntax.{w64}
 use mir.Val.{toZ, ofZ}
+use Rattle.quantity.specs.Limits.{lineGrams}
 use Rattle.ledger.specs.Columns.{BEFORE_ENTRY}
-use Rattle.ledger.specs.Ledger.{STEP, chargedAndCredited}
+use Rattle.ledger.specs.Ledger.{chargedAndCredited}
 use Rattle.ledger.proofs.Sizes.{kept, size-plus, size-minus}
 use Rattle.ledger.proofs.Bounds.{each-charged}
 use Rattle.ledger.proofs.charge.Statement.{statement}
@@ -35,26 +36,26 @@ module _ (c : tie.Start) where
   held-fits : toZ w64 (ofZ w64 held) ≡ held
   held-fits = kept held (omega (arith, c .pre .0 (c .args .e .charged)))
 
-  more-small : natAbs more ≤ BEFORE_ENTRY + STEP
+  more-small : natAbs more ≤ BEFORE_ENTRY + lineGrams
   more-small =
-      omega (arith, size-plus held (c .args .e .charge .0), c .pre .0 (c .args .e .charged), c .pre .1 .moved)
+      omega (arith, size-plus held (c .args .e .charge .0), c .pre .0 (c .args .e .charged), c .pre .1 .grams .moved)
 
   more-fits : toZ w64 (ofZ w64 more) ≡ more
   more-fits = kept more (omega (arith, more-small))
 
-  left-small : natAbs left ≤ BEFORE_ENTRY + STEP
+  left-small : natAbs left ≤ BEFORE_ENTRY + lineGrams
   left-small =
       omega (
         arith,
         each-charged BEFORE_ENTRY b (c .pre .0) (c .args .e .charged) (c .args .e .charge .0) (c .args .e .credited),
-        c .pre .1 .moved,
+        c .pre .1 .grams .moved,
       )
 
   left-fits : toZ w64 (ofZ w64 left) ≡ left
   left-fits = kept left (omega (arith, left-small))
 
   less-fits : toZ w64 (ofZ w64 less) ≡ less
-  less-fits = kept less (omega (arith, size-minus left (c .args .e .credit .0), left-small, c .pre .1 .moved))
+  less-fits = kept less (omega (arith, size-minus left (c .args .e .credit .0), left-small, c .pre .1 .grams .moved))
 
 after-charge : (c : tie.After-changed) → c .changed .result .0 ≡ more (c .before .before .before)
 after-charge c =
@@ -76,7 +77,7 @@ element-copy-out-held c = search needs
 changed-requires : tie.Need-changed-requires
 changed-requires c κs =
     let k = c .before .before in
-    rw (held-fits k) (omega (arith, k .pre .0 (k .args .e .charged)), (omega (arith, k .pre .1 .moved), omega arith))
+    rw (held-fits k) (omega (arith, k .pre .0 (k .args .e .charged)), (omega (arith, k .pre .1 .grams .moved), omega arith))
 
 mul-more : tie.Need-mul-more
 mul-more c = search needs
@@ -93,7 +94,7 @@ element-copy-out-kept c = search needs
 changed-requires-2 : tie.Need-changed-requires-2
 changed-requires-2 c κs =
     let k = c .before .before .before .before .before .before in
-    simp (after-charge (c .before .before .before), more-fits k, left-fits k) (left-small k, (omega arith, omega (arith, k .pre .1 .moved)))
+    simp (after-charge (c .before .before .before), more-fits k, left-fits k) (left-small k, (omega arith, omega (arith, k .pre .1 .grams .moved)))
 
 mul-less : tie.Need-mul-less
 mul-less c = search needs

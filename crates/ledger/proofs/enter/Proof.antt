@@ -14,7 +14,7 @@ held-fits c = kept _ (omega (arith, c .pre .0))
 changed-requires : tie.Need-changed-requires
 changed-requires c κs =
     let p = c .before .pre in
-    rw (held-fits (c .before)) (omega (arith, p .0), (omega (arith, p .1 .entering), omega (arith, p .1 .leaving)))
+    rw (held-fits (c .before)) (omega (arith, p .0), (omega (arith, p .1 .grams .entering), omega (arith, p .1 .grams .leaving)))
 
 returns : tie.Need-returns
 returns c =
@@ -24,7 +24,7 @@ returns c =
     let is = (simp (held-fits k) at (c .before .changed .ensures)) in
     rw is
     (kept (more -ℤ pos (e .leaving .0))
-    (omega (arith, size-minus more (e .leaving .0), size-plus (k .args .entered .now) (e .entering .0), k .pre .0, k .pre .1 .entering, k .pre .1 .leaving)))
+    (omega (arith, size-minus more (e .leaving .0), size-plus (k .args .entered .now) (e .entering .0), k .pre .0, k .pre .1 .grams)))
 
 pub enter-spec : {M : Type 1} → statement M
 enter-spec = tie.close (tie.spec changed-requires returns)

@@ -142,17 +142,17 @@ charge-requires c κs = (space (c .before) .balances, small (c .before))
 add-requires : tie.Need-add-requires Inv-loop μ-loop
 add-requires c κs =
     let w = c .before .before .before in
-    (small w .user-in, omega (arith, space w .indirect (w .weigh .result .user), small w .into))
+    (small w .user-in, omega (arith, space w .indirect (w .weigh .result .user), small w .grams .into))
 
 add-requires-2 : tie.Need-add-requires-2 Inv-loop μ-loop
 add-requires-2 c κs =
     let w = c .before .before .before .before .before in
-    (small w .buyer-in, omega (arith, space w .bought-direct (w .weigh .result .buyer), small w .into))
+    (small w .buyer-in, omega (arith, space w .bought-direct (w .weigh .result .buyer), small w .grams .into))
 
 add-requires-3 : tie.Need-add-requires-3 Inv-loop μ-loop
 add-requires-3 c κs =
     let w = c .before .before .before .before .before .before .before in
-    (small w .buyer-in, omega (arith, space w .bought-indirect (w .weigh .result .buyer), small w .into))
+    (small w .buyer-in, omega (arith, space w .bought-indirect (w .weigh .result .buyer), small w .grams .into))
 
 enter-requires : tie.Need-enter-requires Inv-loop μ-loop
 enter-requires c κs =
@@ -162,7 +162,7 @@ enter-requires c κs =
 add-uncredited : tie.Need-add-uncredited Inv-loop μ-loop
 add-uncredited c =
     let w = c .before .before .before .before .before .before .before .before .before .before .before in
-    record { fits = omega (arith, space w .uncredited, small w .uncredited) }
+    record { fits = omega (arith, space w .uncredited, small w .grams .uncredited) }
 
 abbrev weighed : tie.After-works2 Inv-loop μ-loop → tie.After-weigh Inv-loop μ-loop
 weighed c = c .before .before .before .before .before .before .before .before .before .before .before .before

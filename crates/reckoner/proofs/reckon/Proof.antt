@@ -8,8 +8,7 @@ use Rattle.decimal.proofs.Bools.{never}
 use Rattle.quantity.specs.Limits.{limits}
 use Rattle.checks.specs.Numbers.{refusalNumber}
 use Rattle.reckoner.specs.Closed.{large}
-use Rattle.reckoner.proofs.Ready.{ready}
-use Rattle.reckoner.proofs.Answer.{refused-bytes, refused-empty, refused-line, ok, accepted-answer, accepted-sum, not-large}
+use Rattle.reckoner.proofs.Answer.{refused-bytes, refused-empty, refused-line, can-close, accepted-answer, accepted-sum, not-large}
 use Rattle.reckoner.proofs.reckon.Statement.{statement}
 use Rattle.reckoner.proofs.reckon.Tie as tie
 
@@ -45,8 +44,7 @@ none c = sym (c .before .refusal-number .ensures) ∙ c .if3 .left
 figures-of-requires : tie.Need-figures-of-requires
 figures-of-requires c κs =
     let k = c .before .before in
-    let of = read k .read-lines .ensures in
-    ready _ _ _ (of .gathered (none k)) (ok _ (short (read k)) (some (read k)) _ _ of (none k))
+    can-close _ (short (read k)) (some (read k)) _ _ (read k .read-lines .ensures) (none k)
 
 is-large-requires : tie.Need-is-large-requires
 is-large-requires c κs =
