@@ -13,7 +13,7 @@ use Rattle.quantity.specs.Limits.{Limits, limits}
 use Rattle.quantity.proofs.Small.{weight-small, charge-small, stream-small}
 use Rattle.quantity.proofs.Weights.{credit-below-charge}
 use Rattle.lines.specs.Records.{Record, numberAt}
-use Rattle.sheet.specs.Kinds.{Kind, Process, SourceStream, MeasurableHeat, WasteGas, Electricity, BoughtPrecursor, OwnGood, Unknown, kind, rules}
+use Rattle.sheet.specs.Kinds.{Kind, Process, SourceStream, MeasurableHeat, WasteGas, Electricity, BoughtPrecursor, OwnGood, Unknown, kind, is, rules}
 use Rattle.sheet.specs.Refusals.{process, from, to, hasProcess, missingProcess, endsNotAllowed}
 use Rattle.sheet.specs.Ranges.{KeepsRanges}
 use Rattle.sheet.proofs.Table.{is-kind}
@@ -154,21 +154,21 @@ module _ (limits : Limits) (above : List Record) (n : ℕ) (named-in : (p : ℕ)
       let q = or-neither (not (hasProcess above f)) (not (hasProcess above t)) h in
       (named-in f (q .0), named-in t (q .1))
 
-  pub valid-of : (k : Kind) (r : Record) → kind r ≡ k → KeepsRanges limits r → missingProcess above r ≡ false → endsNotAllowed r ≡ false
-      → ValidOf n k r
+  pub valid-of : (k : Kind) (r : Record) → kind r ≡ k → KeepsRanges limits r → (is Process r ≡ true → process r ≤ n) → missingProcess above r ≡ false
+      → endsNotAllowed r ≡ false → ValidOf n k r
   unfolding rules
-  valid-of Process r e keeps m a = tt
-  valid-of SourceStream r e keeps m a = (in-rules limits r keeps SourceStream e .0 refl .low, one-named (process r) (rw e at m))
-  valid-of MeasurableHeat r e keeps m a = both-named (from r) (to r) (rw e at m)
-  valid-of WasteGas r e keeps m a =
+  valid-of Process r e keeps p m a = (in-rules limits r keeps Process e .0 refl .low, p (is-kind Process r e))
+  valid-of SourceStream r e keeps p m a = (in-rules limits r keeps SourceStream e .0 refl .low, one-named (process r) (rw e at m))
+  valid-of MeasurableHeat r e keeps p m a = both-named (from r) (to r) (rw e at m)
+  valid-of WasteGas r e keeps p m a =
       let b = both-named (from r) (to r) (rw e at m) in
       (b .0, b .1, eqb-false (from r) (to r) (rw e at a), in-rules limits r keeps WasteGas e .1 .1 .0 refl .low)
-  valid-of Electricity r e keeps m a = both-named (from r) (to r) (rw e at m)
-  valid-of BoughtPrecursor r e keeps m a = (in-rules limits r keeps BoughtPrecursor e .0 refl .low, one-named (process r) (rw e at m))
-  valid-of OwnGood r e keeps m a =
+  valid-of Electricity r e keeps p m a = both-named (from r) (to r) (rw e at m)
+  valid-of BoughtPrecursor r e keeps p m a = (in-rules limits r keeps BoughtPrecursor e .0 refl .low, one-named (process r) (rw e at m))
+  valid-of OwnGood r e keeps p m a =
       let q = and-both (leb 1 (from r)) (ltb (from r) (to r)) (not-false (leb 1 (from r) && ltb (from r) (to r)) (rw e at a)) in
       (leb-true 1 (from r) (q .0), ltb-true (from r) (to r) (q .1), both-named (from r) (to r) (rw e at m) .1)
-  valid-of Unknown r e keeps m a = absurd (never (rw e at (sym (keeps .known))))
+  valid-of Unknown r e keeps p m a = absurd (never (rw e at (sym (keeps .known))))
 
 -- ---- its entry is small
 

@@ -5,6 +5,7 @@ pub mod Sums
 pub mod EveryKind
 pub mod Entries
 pub mod Valid
+pub mod Outside
 pub mod Works
 pub mod Exact
 pub mod Sheet

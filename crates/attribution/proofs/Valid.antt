@@ -7,7 +7,7 @@ use Prim.Native.Nat.{ℕ, suc, _+_, _≤_}
 use native.Mathlib.Omega.{arith}
 use lib.Dec.{eqb, ltb}
 use lib.ListN.{length}
-use borrow.Author.Tests.{eqb-true, ltb-false, not-false}
+use borrow.Author.Tests.{eq-eqb, eqb-true, ltb-false, not-false}
 use Rattle.decimal.proofs.Bools.{never, or-neither, or-either}
 use Rattle.quantity.specs.Limits.{Limits}
 use Rattle.lines.specs.Lines.{Line, linesOf}
@@ -64,15 +64,19 @@ module _ (limits : Limits) (above : List Record) (num : Numbered above) (n : ℕ
       go (inl e) = omega (arith, eqb-true p 0 e)
       go (inr e) = omega (arith, num p e)
 
-  line-valid : (l : Line) → PassedLine limits above l → Valid n (recordOf l)
-  line-valid l f = valid-of limits above n named-in (kind (recordOf l)) (recordOf l) refl (f .ranges) (f .named) (f .ends)
+  line-valid : (l : Line) → PassedLine limits above l → processCount (recordOf l ∷ above) ≤ n → Valid n (recordOf l)
+  unfolding anyOf
+  line-valid l f few′ =
+      valid-of limits above n named-in (kind (recordOf l)) (recordOf l) refl (f .ranges)
+      (λ p. omega (arith, numbered-next above (recordOf l) (f .next) num (process (recordOf l)) (rw (p, eq-eqb (process (recordOf l)) _ refl)), few′))
+      (f .named) (f .ends)
 
 lines-valid : (limits : Limits) (above : List Record) (ls : List Line) (n : ℕ) → Numbered above
     → processCount above + processCount (map recordOf ls) ≤ n → PassedLines limits above ls → All (Valid n) (map recordOf ls)
 unfolding processCount sumOf
 lines-valid limits above [] n num few passed = tt
 lines-valid limits above (l ∷ ls) n num few passed = (
-  line-valid limits above num n (omega arith) l (passed .0),
+  line-valid limits above num n (omega arith) l (passed .0) (omega arith),
   lines-valid limits (recordOf l ∷ above) ls n (numbered-next above (recordOf l) (passed .0 .next) num) (omega arith) (passed .1),
 )
 

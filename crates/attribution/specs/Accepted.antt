@@ -12,7 +12,7 @@ use Rattle.attribution.specs.Reckoning.{processCount, output, kilosBetwe
 
 -- a line of each kind, in a works of n processes
 abbrev pub ValidOf : (n : ℕ) → Kind → Record → Type 0
-ValidOf n Process r = Unit {0}
+ValidOf n Process r = (1 ≤ process r) × (process r ≤ n)
 ValidOf n SourceStream r = (1 ≤ process r) × (process r ≤ n)
 ValidOf n MeasurableHeat r = (from r ≤ n) × (to r ≤ n)
 ValidOf n WasteGas r = (from r ≤ n) × (to r ≤ n) × (from r ≡ to r → ⊥) × (1 ≤ numberAt r 2)

@@ -42,7 +42,7 @@ pub fn close(l: Ledger, outputs: KilosByProcess, kilos: &KilosByPair, count: usi
     let total_raised = total(&raised.0, count);
     let mut own_direct = GramsByProcess([0; SIZE]);
     add_all(&mut own_direct.0, &direct.0, &l.bought_direct.0, count);
-    let indirect = l.indirect;
+    let mut indirect = l.indirect;
     let mut own_indirect = GramsByProcess([0; SIZE]);
     add_all(
         &mut own_indirect.0,
@@ -62,6 +62,8 @@ pub fn close(l: Ledger, outputs: KilosByProcess, kilos: &KilosByPair, count: usi
     let direct_left = total(&direct_lefts.0, count);
     let indirect_left = total(&indirect_lefts.0, count);
     let left = Grams(direct_left.0 + indirect_left.0);
+    // Place 0 of the ledger has the power that went out of the works.
+    indirect.0[0] = 0;
     Closing {
         direct,
         indirect,

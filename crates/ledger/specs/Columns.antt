@@ -1,15 +1,9 @@
 -- For the code only: what an array holds at the number of each process, and how large it is.
-use mathlib.Core.Path.{_≡_}
 use mathlib.Core.List.{List}
 use Prim.Native.Nat.{ℕ, _+_, _^_, _≤_, _<_}
 use lib.IntN.{ℤ, pos, natAbs}
 use lib.ListN.{getD}
-use Rattle.goods.specs.ByProcess.{SIZE, figures}
-
--- the array has 0 outside 1 .. count
-pub record NoneOutside (count : ℕ) (a : List ℕ) : Type 0 where
-  pub outside : figures a 0 ≡ 0
-  pub beyond : (k : ℕ) → count < k → figures a k ≡ 0
+use Rattle.goods.specs.ByProcess.{SIZE}
 
 -- the signed figure of process k
 abbrev pub signedFigures : List ℤ → (k : ℕ) → ℤ

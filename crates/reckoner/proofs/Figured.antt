@@ -3,14 +3,14 @@ use mathlib.Core.Path.{_≡_, ap, ap₂, _∙_}
 use mathlib.Core.List.{List}
 use Prim.Native.Nat.{ℕ, _+_, _≤_}
 use native.Mathlib.Omega.{arith}
-use lib.ListN.{length}
 use Rattle.lines.specs.Records.{Record}
 use Rattle.goods.specs.Sums.{sumTo}
 use Rattle.goods.specs.Goods.{poolOf, leftOf}
-use Rattle.goods.specs.ByProcess.{SIZE, figures, Column}
+use Rattle.goods.specs.ByProcess.{figures}
 use Rattle.goods.specs.Settling.{pairs}
 use Rattle.goods.proofs.Sums.{sum-cong}
 use Rattle.goods.proofs.Same.{pool-cong, left-cong}
+use Rattle.ledger.specs.Whole.{NoneOutside, WholeColumn}
 use Rattle.ledger.specs.Raising.{raisedToZero}
 use Rattle.closing.specs.Closing.{Closed}
 use Rattle.closing.specs.declared.Closing.{Closing}
@@ -21,13 +21,14 @@ use Rattle.reckoner.specs.Reckoned.{FiguresOf}
 use Rattle.reckoner.specs.Closed.{acceptedAs}
 use Rattle.works.specs.declared.Works.{Works}
 use Rattle.attribution.specs.Accepted.{Accepted}
+use Rattle.attribution.proofs.Outside.{no-output}
 use Rattle.reckoner.proofs.Ready.{own-direct-is, own-indirect-is, raised-is, pairs-is, raised-sum}
 
 module _ (rs : List Record) (w : Works) (kilos : List ℕ) (g : Gathered rs w kilos) (ok : Accepted rs) (c : Closing)
     (closed : Closed (w .ledger) (w .outputs .0) kilos (w .count) c) where
-  column : {figure other : ℕ → ℕ} {a : List ℕ} → Column (w .count) figure a → ((k : ℕ) → 1 ≤ k → k ≤ w .count → figure k ≡ other k)
-      → Column (w .count) other a
-  column h same = record { size = h .size; at = λ k l m. h .at k l m ∙ same k l m }
+  column : {figure other : ℕ → ℕ} {a : List ℕ} → WholeColumn (w .count) figure a → ((k : ℕ) → 1 ≤ k → k ≤ w .count → figure k ≡ other k)
+      → WholeColumn (w .count) other a
+  column h same = record { size = h .size; at = λ k l m. h .at k l m ∙ same k l m; outside = h .outside }
 
   -- pools and lefts over the code's arrays are those over document 01's figures
   pool-same : (own own′ : ℕ → ℕ) → ((k : ℕ) → own k ≡ own′ k) → (k : ℕ) → k ≤ w .count
@@ -51,7 +52,7 @@ module _ (rs : List Record) (w : Works) (kilos : List ℕ) (g : Gathered rs w ki
     few = g .few;
     made = g .made;
     outputs-small = g .outputs-small;
-    outputs = record { size = outputs-size; at = λ k l m. g .output-at k };
+    outputs = record { size = g .outputs-size; at = λ k l m. g .output-at k; outside = outputs-outside };
     directs = column (closed .direct) (λ k l m. ap raisedToZero (g .balance-at k));
     indirects = column (closed .indirect) (λ k l m. g .indirect-at k);
     raiseds = column (closed .raised) (λ k l m. raised-is rs w kilos g ok k);
@@ -68,5 +69,5 @@ module _ (rs : List Record) (w : Works) (kilos : List ℕ) (g : Gathered rs w ki
     entered-small = omega (arith, g .room .entered);
   }
     where
-      outputs-size : length (w .outputs .0) ≡ SIZE
-      outputs-size = g .outputs-size
+      outputs-outside : NoneOutside (w .count) (w .outputs .0)
+      outputs-outside k o = g .output-at k ∙ no-output (processCount rs) rs (ok .valid) k (λ l m. o l (omega (arith, g .count)))

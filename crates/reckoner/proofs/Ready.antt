@@ -16,6 +16,7 @@ use Rattle.attribution.specs.Reckoning.{processCount, kilosBetween, totalRaised
 use Rattle.reading.specs.Gathered.{Gathered}
 use Rattle.works.specs.declared.Works.{Works}
 use Rattle.attribution.proofs.Entries.{forward}
+use Rattle.attribution.proofs.Outside.{no-power}
 use Rattle.attribution.proofs.RowFifteen.{SumsBelow}
 use Rattle.attribution.specs.Accepted.{Accepted}
 
@@ -75,4 +76,5 @@ module _ (rs : List Record) (w : Works) (kilos : List ℕ) (g : Gathered rs w ki
     indirect = settleable (ownIndirect (w .ledger)) (omega (arith, own-indirect-sum, sums .into));
     own = omega (arith, own-direct-sum, own-indirect-sum, sums .into);
     raised = omega (arith, raised-sum, sums .raised);
+    none-beyond = λ k h. g .indirect-at k ∙ no-power n rs (ok .valid) k (omega (arith, g .count));
   }

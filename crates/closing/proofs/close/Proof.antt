@@ -12,6 +12,7 @@ use Rattle.goods.specs.ByProcess.{SIZE, figures}
 use Rattle.goods.specs.Settling.{pairs, Settleable}
 use Rattle.goods.proofs.Sums.{sum-cong}
 use Rattle.ledger.specs.Columns.{together}
+use Rattle.ledger.proofs.Columns.{column-inside}
 use Rattle.closing.specs.Closing.{ownDirect, ownIndirect}
 use Rattle.closing.proofs.Pooling.{own-fits, settleable-cong, Pooled, pooled}
 use Rattle.closing.proofs.close.Statement.{statement}
@@ -39,7 +40,7 @@ raise-all-requires c κs = search needs
 total-requires : tie.Need-total-requires
 total-requires c κs =
     let k = c .before .before in
-    (omega (arith, start k .pre .few), subst (λ (n : ℕ). n < wholeGrams) (sym (sum-cong _ _ _ (k .raise-all .ensures .1 .0 .at))) (start k .pre .raised))
+    (omega (arith, start k .pre .few), subst (λ (n : ℕ). n < wholeGrams) (sym (sum-cong _ _ _ (k .raise-all .ensures .1 .at))) (start k .pre .raised))
 
 add-all-requires : tie.Need-add-all-requires
 add-all-requires c κs =
@@ -54,8 +55,8 @@ add-all-requires-2 c κs =
 settle-requires : tie.Need-settle-requires
 settle-requires c κs =
     let k = c .before .before .before .before .before .before .before .before .before .before .before .before .before .before .before .before in
-    let d = c .before .before .before .before .before .before .before .add-all .ensures .0 in
-    let i = c .add-all2 .ensures .0 in (
+    let d = c .before .before .before .before .before .before .before .add-all .ensures in
+    let i = c .add-all2 .ensures in (
       start k .pre .few,
       (
         (d .size, i .size),
@@ -79,10 +80,10 @@ module _ (c : tie.After-settle) where
 
   direct-pooled : PooledOver (ownDirect (at-start .args .t1)) (c .settle .result .«direct_pools» .0) (c .settle .result .«direct_lefts» .0)
   direct-pooled =
-      pooled (at-start .pre .direct) (λ k l h. c .before .before .before .before .before .before .before .before .add-all .ensures .0 .at k l h ∙ own-is raised k l h) (c .settle .ensures .0)
+      pooled (at-start .pre .direct) (λ k l h. c .before .before .before .before .before .before .before .before .add-all .ensures .at k l h ∙ own-is raised k l h) (c .before .before .before .before .before .before .before .before .add-all .ensures .outside) (c .settle .ensures .0)
 
   indirect-pooled : PooledOver (ownIndirect (at-start .args .t1)) (c .settle .result .«indirect_pools» .0) (c .settle .result .«indirect_lefts» .0)
-  indirect-pooled = pooled (at-start .pre .indirect) (c .before .add-all2 .ensures .0 .at) (c .settle .ensures .1)
+  indirect-pooled = pooled (at-start .pre .indirect) (c .before .add-all2 .ensures .at) (c .before .add-all2 .ensures .outside) (c .settle .ensures .1)
 
   left-fits : sumTo (at-start .args .count) (figures (c .settle .result .«direct_lefts» .0))
       + sumTo (at-start .args .count) (figures (c .settle .result .«indirect_lefts» .0)) < wholeGrams
@@ -98,6 +99,9 @@ add-t37 : tie.Need-add-t37
 add-t37 c =
     record { fits = omega (arith, left-fits (c .before .before .before .before .before .before .before .before .before .before .before .before), c .before .before .before .before .before .total2 .ensures, c .before .before .total3 .ensures) }
 
+element-write-indirect : tie.Need-element-write-indirect
+element-write-indirect c = search needs
+
 returns : tie.Need-returns
 returns c =
     let k = c .before .before .before .before .before .before .before .before .before .before .before .before in
@@ -107,15 +111,15 @@ returns c =
     let left = ap₂ (λ (direct indirect : ℕ). direct + indirect) (c .before .before .before .before .before .total2 .ensures) (c .before .before .total3 .ensures) in
     record {
       direct = r .raise-all .ensures .0;
-      indirect = record { size = indirect-size (start r); at = λ k l u. refl };
-      raised = r .raise-all .ensures .1 .0;
+      indirect = column-inside _ (start r .args .t1 .indirect .0) (indirect-size (start r)) (start r .pre .none-beyond);
+      raised = r .raise-all .ensures .1;
       direct-pools = d .pool;
       indirect-pools = i .pool;
       direct-lefts = d .rest;
       indirect-lefts = i .rest;
       left = left ∙ ap₂ (λ (direct indirect : ℕ). direct + indirect) (d .all) (i .all);
       left-small = rw left (left-fits k);
-      total-raised = summed k .total .ensures ∙ sum-cong _ _ _ (r .raise-all .ensures .1 .0 .at);
+      total-raised = summed k .total .ensures ∙ sum-cong _ _ _ (r .raise-all .ensures .1 .at);
     }
 
 pub close-spec : {M : Type 1} → statement M
@@ -130,4 +134,5 @@ close-spec =
     total-requires-2
     total-requires-3
     add-t37
+    element-write-indirect
     returns)

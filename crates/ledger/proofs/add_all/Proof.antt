@@ -3,20 +3,20 @@ use mathlib.Core.Path.{_≡_, refl}
 use Prim.Native.Nat.{_+_, _-_, _≤_}
 use native.Mathlib.Omega.{arith}
 use borrow.Author.Needs.{needs}
-use Rattle.goods.specs.ByProcess.{Column}
-use Rattle.ledger.specs.Columns.{NoneOutside, together}
-use Rattle.ledger.proofs.Columns.{column-none, column-more, outside-none, outside-more}
+use Rattle.ledger.specs.Columns.{together}
+use Rattle.ledger.specs.Whole.{WholeColumn}
+use Rattle.ledger.proofs.Columns.{column-none, column-more}
 use Rattle.ledger.proofs.add_all.Statement.{statement}
 use Rattle.ledger.proofs.add_all.Tie as tie
 
 abbrev Inv-loop : tie.InvT-loop
-Inv-loop both₀ a b count done₀ both done = (done ≤ count) × (Column done (together a b) both) × (NoneOutside done both)
+Inv-loop both₀ a b count done₀ both done = (done ≤ count) × (WholeColumn done (together a b) both)
 
 abbrev μ-loop : tie.MeasureT-loop
 μ-loop both₀ a b count done₀ both done = count - done
 
 loop-holds : tie.Need-loop-holds Inv-loop μ-loop
-loop-holds c = rw (c .pre .1 .1) (omega arith, column-none _, outside-none)
+loop-holds c = rw (c .pre .1 .1) (omega arith, column-none _)
 
 add-k : tie.Need-add-k Inv-loop μ-loop
 add-k c = search needs
@@ -48,12 +48,12 @@ loop-less c = search needs
 loop-again : tie.Need-loop-again Inv-loop μ-loop
 loop-again c =
     let inv = c .before .before .before .loop .inv in
-    (omega arith, column-more _ _ _ _ (omega arith) (inv .1) refl, outside-more _ _ _ (inv .2))
+    (omega arith, column-more _ _ _ _ (omega arith) (inv .1) refl)
 
 returns : tie.Need-returns Inv-loop μ-loop
 returns c =
     let e : c .before .loop .done ≡ c .before .before .args .count = omega arith in
-    rw (← e) (c .before .loop .inv .1, c .before .loop .inv .2)
+    rw (← e) (c .before .loop .inv .1)
 
 pub add-all-spec : {M : Type 1} → statement M
 add-all-spec =

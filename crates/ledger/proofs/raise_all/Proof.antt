@@ -9,18 +9,17 @@ use mir.Syntax.{w64}
 use mir.Val.{toZ, ofZ}
 use Rattle.ledger.proofs.Sizes.{kept}
 use Rattle.ledger.specs.Raising.{raisedToZero, gramsAdded}
-use Rattle.goods.specs.ByProcess.{Column}
-use Rattle.ledger.specs.Columns.{NoneOutside, signedFigures}
-use Rattle.ledger.proofs.Columns.{column-none, column-more, outside-none, outside-more}
+use Rattle.ledger.specs.Columns.{signedFigures}
+use Rattle.ledger.specs.Whole.{WholeColumn}
+use Rattle.ledger.proofs.Columns.{column-none, column-more}
 use Rattle.ledger.proofs.raise_all.Statement.{statement}
 use Rattle.ledger.proofs.raise_all.Tie as tie
 
 abbrev Inv-loop : tie.InvT-loop
 Inv-loop direct₀ raised₀ balances count done₀ direct raised done =
     (done ≤ count)
-    × (Column done (λ k. raisedToZero (signedFigures balances k)) direct)
-    × (Column done (λ k. gramsAdded (signedFigures balances k)) raised)
-    × (NoneOutside done direct × NoneOutside done raised)
+    × (WholeColumn done (λ k. raisedToZero (signedFigures balances k)) direct)
+    × (WholeColumn done (λ k. gramsAdded (signedFigures balances k)) raised)
 
 abbrev μ-loop : tie.MeasureT-loop
 μ-loop direct₀ raised₀ balances count done₀ direct raised done = count - done
@@ -30,7 +29,7 @@ fits : (c : tie.Start Inv-loop μ-loop) (k : ℕ) → toZ w64 (ofZ w64 (getD (c 
 fits c k = kept (getD (c .args .balances .now) k (pos 0)) (omega (arith, c .pre .1 .0 k))
 
 loop-holds : tie.Need-loop-holds Inv-loop μ-loop
-loop-holds c = rw (c .pre .1 .1 .0, c .pre .1 .1 .1) (omega arith, column-none _, column-none _, (outside-none, outside-none))
+loop-holds c = rw (c .pre .1 .1 .0, c .pre .1 .1 .1) (omega arith, column-none _, column-none _)
 
 add-k : tie.Need-add-k Inv-loop μ-loop
 add-k c = search needs
@@ -69,13 +68,12 @@ loop-again c =
       omega arith,
       column-more _ _ _ _ (omega arith) (inv .1) (h .0),
       column-more _ _ _ _ (omega arith) (inv .2) (h .1),
-      (outside-more _ _ _ (inv .3 .0), outside-more _ _ _ (inv .3 .1)),
     )
 
 returns : tie.Need-returns Inv-loop μ-loop
 returns c =
     let e : c .before .loop .done ≡ c .before .before .args .count = omega arith in
-    rw (← e) (c .before .loop .inv .1, (c .before .loop .inv .2, c .before .loop .inv .3))
+    rw (← e) (c .before .loop .inv .1, c .before .loop .inv .2)
 
 pub raise-all-spec : {M : Type 1} → statement M
 raise-all-spec =

@@ -1,0 +1,16 @@
+-- For the reader. Document 01, "The report": the figure of each process at its number, and nothing else.
+use mathlib.Core.Path.{_≡_}
+use mathlib.Core.List.{List}
+use Prim.Native.Nat.{ℕ, _≤_}
+use lib.ListN.{length}
+use Rattle.goods.specs.ByProcess.{SIZE, figures}
+
+-- every place outside 1 .. count has 0
+abbrev pub NoneOutside : (count : ℕ) → List ℕ → Type 0
+NoneOutside count a = (k : ℕ) → (1 ≤ k → k ≤ count → ⊥) → figures a k ≡ 0
+
+-- the array has the figure of each process 1 .. count at its number, and 0 in every other place
+pub record WholeColumn (count : ℕ) (figure : ℕ → ℕ) (a : List ℕ) : Type 0 where
+  pub size : length a ≡ SIZE
+  pub at : (k : ℕ) → 1 ≤ k → k ≤ count → figures a k ≡ figure k
+  pub outside : NoneOutside count a
