@@ -1,5 +1,5 @@
 -- A sheet's lines one after the other, over places of the sheet, and the place of a line. Assumes nothing.
-use mathlib.Core.Path.{_≡_, refl, sym, ap, _∙_}
+use mathlib.Core.Path.{_≡_, refl, sym, ap, ap₂, _∙_}
 use mathlib.Core.Bool.{Bool, true, false, cond}
 use mathlib.Core.List.{List, [], _∷_}
 use Prim.Native.Nat.{ℕ, zero, suc, _+_, _-_, min, _≤_, _<_}
@@ -14,7 +14,7 @@ use lib.Seq.{take-nil, drop-cons, drop-drop}
 use Rattle.decimal.proofs.Bools.{ltb-suc}
 use Rattle.lines.specs.Lines.{LF, Line, line, beforeLine, linesOf, lineBytes, lineStart}
 use Rattle.lines.specs.Words.{lineLength, lineAt}
-use Rattle.places.specs.LinePlace.{PlaceOf}
+use Rattle.places.specs.LinePlace.{offendingLine, partOf}
 use Rattle.places.specs.declared.Place.{Place}
 use Rattle.lines.proofs.OneRecord.{line-part}
 
@@ -167,13 +167,12 @@ bytes-from sheet (suc n) start =
       | no h ↦ bytes-next sheet start n (lt-of-not-le h) (bytes-from sheet n (suc (start + lineLength (drop start sheet))))
     ]
 
--- ---- the place of a line
+-- ---- the part of the sheet that is a line
+
+abbrev place : (start size : ℕ) → Place
+place start size = record { start = start; length = size }
 
 module _ (sheet : List ℕ) where
-  pub place-none : PlaceOf sheet 0 (record { start = 0; length = 0 })
-  unfolding lineBytes lineStart
-  place-none = record { start = omega arith; size = refl; inside = omega arith }
-
   module _ (n start : ℕ) (some : n ≡ 0 → ⊥) (e : start ≡ lineStart (linesOf sheet) n) where
     long : length (lineBytes (linesOf sheet) n) ≡ lineLength (drop start sheet)
     long = go n some e
@@ -182,23 +181,52 @@ module _ (sheet : List ℕ) where
         go zero some e = absurd (some refl)
         go (suc n) some e = ap length (bytes-from sheet n 0 ∙ ap (λ (k : ℕ). lineAt sheet k .bytes) (omega arith)) ∙ bytes-length sheet start
 
-    pub place-past : length sheet ≤ start → PlaceOf sheet n (record { start = length sheet; length = 0 })
-    place-past h = record { start = omega arith; size = sym (long ∙ line-none sheet start h); inside = omega arith }
+    pub place-past : length sheet ≤ start → record { start = length sheet; length = 0 } ≡ offendingLine sheet n
+    unfolding offendingLine
+    place-past h =
+        let at : length sheet ≡ min (lineStart (linesOf sheet) n) (length sheet) = omega arith in
+        ap₂ place at (sym (long ∙ line-none sheet start h))
 
     pub place-of : (end : ℕ) → start < length sheet → end ≡ start + lineLength (drop start sheet)
-        → PlaceOf sheet n (record { start = start; length = end - start })
+        → record { start = start; length = end - start } ≡ offendingLine sheet n
+    unfolding offendingLine
     place-of end h f =
-        record {
-          start = omega arith;
-          size = omega (arith, long);
-          inside = omega (arith, end-in sheet start (omega arith));
-        }
+        let at : start ≡ min (lineStart (linesOf sheet) n) (length sheet) = omega arith in
+        let size : end - start ≡ length (lineBytes (linesOf sheet) n) = omega (arith, long) in
+        ap₂ place at size
 
-  -- the part of the sheet at a line's place is the line
-  pub place-bytes : (n : ℕ) (p : Place) → PlaceOf sheet n p → take (p .start + p .length - p .start) (drop (p .start) sheet) ≡ lineBytes (linesOf sheet) n
-  place-bytes n p k =
-      let z : p .start + p .length - p .start ≡ length (lineBytes (linesOf sheet) n) = omega (arith, k .size) in
-      rw (z, k .start, same) (line-part sheet n)
+  pub place-none : record { start = 0; length = 0 } ≡ offendingLine sheet 0
+  unfolding offendingLine lineBytes lineStart
+  place-none = ap₂ place (let at : 0 ≡ min 0 (length sheet) = omega arith in at) refl
+
+  -- it lies inside the sheet
+  pub part-inside : (n : ℕ) → offendingLine sheet n .start + offendingLine sheet n .length ≤ length sheet
+  unfolding offendingLine lineBytes lineStart
+  part-inside zero = omega arith
+  part-inside (suc n) =
+      let size = long (suc n) at (λ e. absurd (omega arith)) refl in
+      elim (decLe (length sheet) at) [
+        | yes h ↦ omega (arith, size, line-none sheet at h)
+        | no h ↦ omega (arith, size, end-in sheet at (omega arith))
+      ]
+    where
+      at : ℕ
+      at = lineStart (linesOf sheet) (suc n)
+
+  -- the part from a place's start to its end is the part at that place
+  module _ (n : ℕ) (p : Place) (e : p ≡ offendingLine sheet n) where
+    pub place-inside : p .start + p .length ≤ length sheet
+    place-inside = rw e (part-inside n)
+
+    pub place-cut : take (p .start + p .length - p .start) (drop (p .start) sheet) ≡ partOf sheet (offendingLine sheet n)
+    place-cut =
+        let z : p .start + p .length - p .start ≡ p .length = omega arith in
+        rw z (ap (partOf sheet) e)
+
+  -- its bytes are the line's
+  pub part-bytes : (n : ℕ) → partOf sheet (offendingLine sheet n) ≡ lineBytes (linesOf sheet) n
+  unfolding offendingLine
+  part-bytes n = rw same (line-part sheet n)
     where
       at : ℕ
       at = lineStart (linesOf sheet) n

@@ -1,13 +1,22 @@
--- For the reader. Document 01, "Sheets sent back": where the offending line stands in the lent sheet, and how long it is.
-use mathlib.Core.Path.{_≡_}
+-- For the reader. Document 01, "Sheets sent back": the offending line as a part of the lent sheet, by its start and its length.
 use mathlib.Core.List.{List}
-use Prim.Native.Nat.{ℕ, _+_, min, _≤_}
-use lib.ListN.{length}
+use Prim.Native.Nat.{ℕ, _+_, min}
+use lib.ListN.{length, take, drop}
 use Rattle.lines.specs.Lines.{linesOf, lineBytes, lineStart}
 use Rattle.places.specs.declared.Place.{Place}
 
--- the place of line n; past the last line, the sheet's end
-pub record PlaceOf (sheet : List ℕ) (n : ℕ) (p : Place) : Type 0 where
-  pub start : p .start ≡ min (lineStart (linesOf sheet) n) (length sheet)
-  pub size : p .length ≡ length (lineBytes (linesOf sheet) n)
-  pub inside : p .start + p .length ≤ length sheet
+-- the part of the sheet that is a line, without its LF: of length 0 for line 0 and, at the sheet's end, past the last line
+unfoldable pub offendingLine : (sheet : List ℕ) → (line : ℕ) → Place
+offendingLine sheet line =
+    record {
+      start = min (lineStart (linesOf sheet) line) (length sheet);
+      length = length (lineBytes (linesOf sheet) line);
+    }
+
+-- the bytes of a part of the sheet
+abbrev pub partOf : (sheet : List ℕ) → Place → List ℕ
+partOf sheet part = take (part .length) (drop (part .start) sheet)
+
+-- the place of memory that stands so many bytes behind another: a block and an offset
+abbrev pub behind : ℕ × ℕ → ℕ → ℕ × ℕ
+behind place bytes = (place .0, bytes + place .1)

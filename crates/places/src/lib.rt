@@ -2,9 +2,9 @@
 ghost use mathlib.Core.Path.{_≡_};
 ghost use Prim.Native.Nat.{_+_, _≤_};
 ghost use lib.ListN.{length, drop};
-ghost use Rattle.lines.specs.Lines.{linesOf, lineBytes, lineStart};
+ghost use Rattle.lines.specs.Lines.{linesOf, lineStart};
 ghost use Rattle.lines.specs.Words.{lineLength};
-ghost use Rattle.places.specs.LinePlace.{PlaceOf};
+ghost use Rattle.places.specs.LinePlace.{offendingLine, partOf, behind};
 
 // Where a line stands in the sheet, without its LF.
 pub struct Place {
@@ -46,7 +46,7 @@ fn line_start(s: &[u8], line: usize) -> usize
 
 // The place of a line in the sheet: of length 0 for line 0 and, at the sheet's end, past the last line.
 pub fn line_place(s: &[u8], line: usize) -> Place
-    ensures { λ r. ⌜ PlaceOf (now (s .entry)) line r ⌝ }
+    ensures { λ r. ⌜ r ≡ offendingLine (now (s .entry)) line ⌝ }
 {
     if line == 0 {
         return Place {
@@ -70,7 +70,8 @@ pub fn line_place(s: &[u8], line: usize) -> Place
 
 // The offending line as that part of the lent sheet, without its LF: empty where the line is 0.
 pub fn offending_line(s: &[u8], line: usize) -> &[u8]
-    ensures { λ r. ⌜ now r ≡ lineBytes (linesOf (now (s .entry))) line ⌝ }
+    ensures { λ r. ⌜ now r ≡ partOf (now (s .entry)) (offendingLine (now (s .entry)) line) ⌝ }
+    ensures lent { λ r. ⌜ r .ptr ≡ behind (s .entry .ptr) (offendingLine (now (s .entry)) line .start) ⌝ }
 {
     let place = line_place(s, line);
     let start = place.start;

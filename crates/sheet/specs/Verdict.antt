@@ -6,7 +6,7 @@ use mathlib.Core.List.{List, [], _∷_, _++_}
 use Prim.Native.Nat.{ℕ, suc}
 use lib.ListN.{length}
 use Rattle.quantity.specs.Limits.{Limits}
-use Rattle.lines.specs.Lines.{Line, linesOf, lineBytes}
+use Rattle.lines.specs.Lines.{Line, linesOf}
 use Rattle.lines.specs.Records.{Field, Record, recordOf}
 use Rattle.sheet.specs.Kinds.{Rule, Table, sheetTable}
 use Rattle.sheet.specs.Refusals.{tooManyBytes, tooManyLines, lacksLF, unknownKind, wrongFieldCount}
@@ -106,7 +106,3 @@ module _ (limits : Limits) where
   -- 1 and 14 come before any line
   unfoldable pub sheetChecks : (sheet : List ℕ) → List Check
   sheetChecks sheet = check 1 0 (tooManyBytes limits sheet) ∷ check 14 0 (emptySheet sheet) ∷ linesChecks [] (linesOf sheet)
-
--- the offending line, a part of the sheet without its LF, empty where the line is 0
-unfoldable pub offendingLine : (sheet : List ℕ) → Verdict → List ℕ
-offendingLine sheet v = lineBytes (linesOf sheet) (lineOf v)

@@ -3,8 +3,7 @@ ghost use mathlib.Core.Path.{_≡_};
 ghost use Prim.Native.Nat.{_≤_};
 ghost use lib.ListN;
 ghost use Rattle.quantity.specs.Limits.{limits};
-ghost use Rattle.lines.specs.Lines.{linesOf, lineBytes, lineStart};
-ghost use Rattle.places.specs.LinePlace.{PlaceOf};
+ghost use Rattle.places.specs.LinePlace.{offendingLine};
 ghost use Rattle.report.specs.Outcome.{outcome};
 ghost use Rattle.writer.specs.Given.{LONGEST, gives};
 use places::line_place;
@@ -32,7 +31,7 @@ pub extern "C" fn wiltoresh_report(
 // The offending line: its length without its LF, and the place where it starts.
 #[no_mangle]
 pub extern "C" fn wiltoresh_line(sheet: &[u8], line: usize, start: &mut usize) -> usize
-    ensures { λ n. ⌜ PlaceOf (now (sheet .entry)) line (record { start = now (start .exit); length = n }) ⌝ }
+    ensures { λ n. ⌜ record { start = now (start .exit); length = n } ≡ offendingLine (now (sheet .entry)) line ⌝ }
 {
     let place = line_place(sheet, line);
     *start = place.start;
