@@ -247,10 +247,12 @@ fn order_within_a_line() {
     refused(",P,1\n", 4, 1);
     refused("P\n", 5, 1);
     refused("P,x,5,\n", 5, 1);
+    refused("P,0,5,\n", 5, 1);
     refused("S,1,1,16,1000,-,-,10000,0,0\n", 5, 1);
     refused("S,1,1,16,1000,-,-,10000,0,0,0,0\n", 5, 1);
     refused("P,0,x\n", 7, 1);
     refused("P,x,0\n", 6, 1);
+    refused("P,2,x\n", 6, 1);
     refused("P,2,0\n", 7, 1);
     refused("P,17,5\n", 7, 1);
     refused("P,1,5\nP,1,5\n", 8, 2);
@@ -268,6 +270,20 @@ fn order_within_a_line() {
     refused("P,1,5\nP,2,5\nG,1,2,1\nG,1,2,9\n", 12, 4);
     refused("P,1,5\nP,2,5\nP,3,5\nG,1,2,3\nG,1,3,3\n", 13, 5);
     refused("P,1,5\nS,2,1,0,1,-,-,1,0\n", 9, 2);
+    refused("P,1,5\nG,1,2,6\n", 9, 2);
+    // 6 and 7 before 9 to 13.
+    for (wrong, number) in [("x", 6), ("0", 7)] {
+        refused(&format!("P,1,5\nW,1,2,{wrong}\n"), number, 2);
+        refused(&format!("P,1,5\nW,1,1,{wrong}\n"), number, 2);
+        refused(&format!("P,1,5\nS,1,1,0,{wrong},-,1,1,0\n"), number, 2);
+        refused(
+            &format!("P,1,5\nP,2,5\nG,1,2,1\nG,1,2,{wrong}\n"),
+            number,
+            4,
+        );
+    }
+    refused("P,1,5\nG,1,x,6\n", 6, 2);
+    refused("P,1,5\nG,1,17,6\n", 7, 2);
 }
 
 #[test]

@@ -42,9 +42,35 @@ examples =
     -- 6 and 7 go field by field from the left
     ∷ gives "P,x,0\n" (refused 6 1)
     ∷ gives "P,0,x\n" (refused 7 1)
-    -- 9 before 10, 10 before 11
+    -- of two rows that apply to one line the lower number: 4 before 5, 5 before 6 and 7
+    ∷ gives "X,1\n" (refused 4 1)
+    ∷ gives "P,x\n" (refused 5 1)
+    ∷ gives "P,0\n" (refused 5 1)
+    -- 6 and 7 before 8
+    ∷ gives "P,2,x\n" (refused 6 1)
+    ∷ gives "P,2,0\n" (refused 7 1)
+    -- before 9
+    ∷ gives "P,1,5\nW,1,2,x\n" (refused 6 2)
+    ∷ gives "P,1,5\nW,1,2,0\n" (refused 7 2)
+    -- before 10
+    ∷ gives "P,1,5\nW,1,1,x\n" (refused 6 2)
+    ∷ gives "P,1,5\nW,1,1,0\n" (refused 7 2)
+    -- before 11
+    ∷ gives "P,1,5\nS,1,1,0,x,-,1,1,0\n" (refused 6 2)
+    ∷ gives "P,1,5\nS,1,1,0,0,-,1,1,0\n" (refused 7 2)
+    -- before 12
+    ∷ gives "P,1,5\nP,2,5\nG,1,2,1\nG,1,2,x\n" (refused 6 4)
+    ∷ gives "P,1,5\nP,2,5\nG,1,2,1\nG,1,2,0\n" (refused 7 4)
+    -- before 13
+    ∷ gives "P,1,5\nG,1,x,6\n" (refused 6 2)
+    ∷ gives "P,1,5\nG,1,17,6\n" (refused 7 2)
+    -- 9 before 10, 11 and 13; where 12 applies, neither 9 nor 10 does, since they would refuse the first line of the pair
     ∷ gives "P,1,5\nW,2,2,9\n" (refused 9 2)
+    ∷ gives "P,1,5\nS,2,1,0,1,-,1,1,0\n" (refused 9 2)
+    ∷ gives "P,1,5\nG,1,2,6\n" (refused 9 2)
+    -- 10 and 12 before 13
     ∷ gives "P,1,5\nG,1,0,9\n" (refused 10 2)
+    ∷ gives "P,1,5\nP,2,5\nG,1,2,3\nG,1,2,3\n" (refused 12 4)
     -- the upper line before the lower number
     ∷ gives "P,1,0\nP\n" (refused 7 1)
     -- 3 before what the line holds
@@ -69,6 +95,9 @@ examples =
     -- over the bytes and over the lines of a sheet
     ∷ givesWithin small "P,1,12345\nP,2,123\n" accepted
     ∷ givesWithin small "P,1,12345\nP,2,1234\n" (refused 1 0)
+    -- the bytes before what the lines hold, and an upper line before the number of lines
+    ∷ givesWithin small "P,1,12345\nP,2,12345" (refused 1 0)
+    ∷ givesWithin small "P,1,0\nP,2,1\nP,3,1\n" (refused 7 1)
     ∷ givesWithin small "P,1,1\nP,2,1\nX" (refused 2 3)
     ∷ givesWithin small "P,1,1\nP,3,1\n" (refused 7 2)
     -- both sides of each limit: P
