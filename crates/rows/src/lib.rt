@@ -100,10 +100,10 @@ fn put_totals(space: &mut [u8], at: usize, r: Reckoning) -> usize
     requires { ⌜ (CanBeWritten r) × (at + (length (tailed (totalFields r)) + 2) ≤ length (now space)) ⌝ }
     ensures { λ n. ⌜ Put (now (space .entry)) at (line 84 (totalFields r)) (now (space .exit)) n ⌝ }
 {
-    let entered = r.entered;
+    let entered = signed_figure(r.entered);
     let letter = put_byte(space, at, b'T');
     let left = put_figure(space, letter, Figure::Whole(r.figures.left.0));
-    let entering = put_figure(space, left, signed_figure(entered));
+    let entering = put_figure(space, left, entered);
     let raised = put_figure(space, entering, Figure::Whole(r.figures.total_raised.0));
     let uncredited = put_figure(space, raised, Figure::Whole(r.uncredited.0));
     put_byte(space, uncredited, b'\n')

@@ -13,8 +13,11 @@ use Rattle.rows.proofs.put_totals.Tie as tie
 
 -- the space stays as long as it was, and each field is put behind the one before it
 module _ (b : tie.After-put-byte) where
+  abbrev shown : tie.After-signed-figure
+  shown = b .before .before
+
   abbrev start : tie.Start
-  start = b .before .before .before .before
+  start = shown .before .before
 
   abbrev long : ℕ
   long = length (start .args .space .now)
@@ -34,7 +37,7 @@ abbrev left-letter : tie.After-put-figure → tie.After-put-byte
 left-letter f = f .before .before .before .before
 
 abbrev entered-letter : tie.After-put-figure2 → tie.After-put-byte
-entered-letter g = left-letter (g .before .before .before .before .before)
+entered-letter g = left-letter (g .before .before .before .before)
 
 abbrev raised-letter : tie.After-put-figure3 → tie.After-put-byte
 raised-letter h = entered-letter (h .before .before .before .before)
@@ -51,8 +54,8 @@ left-put f =
 entered-put : (g : tie.After-put-figure2) → let b = entered-letter g in
     Behind b (g .put-figure2 .result) (length (g .put-figure2 .last .0)) (width b leftFigure + width b enteredFigure)
 entered-put g =
-    let p = left-put (g .before .before .before .before .before) in
-    let e = ap wide (g .before .signed-figure .ensures) in
+    let p = left-put (g .before .before .before .before) in
+    let e = ap wide (shown (entered-letter g) .signed-figure .ensures) in
     (g .put-figure2 .kept .0 ∙ p .0, omega (arith, p .1, g .put-figure2 .ensures .place, e))
 
 raised-put : (h : tie.After-put-figure3) → let b = raised-letter h in
@@ -68,6 +71,9 @@ uncredited-put i =
     let p = raised-put (i .before .before .before .before) in
     (i .put-figure4 .kept .0 ∙ p .0, omega (arith, p .1, i .put-figure4 .ensures .place))
 
+signed-figure-requires : tie.Need-signed-figure-requires
+signed-figure-requires c κs = search needs
+
 put-byte-requires : tie.Need-put-byte-requires
 put-byte-requires c κs = search needs
 
@@ -77,15 +83,12 @@ put-figure-requires c κs =
     let s = start b in
     omega (arith, totals-long (s .args .r), s .pre .1, b .put-byte .kept .0, b .put-byte .ensures .place)
 
-signed-figure-requires : tie.Need-signed-figure-requires
-signed-figure-requires c κs = search needs
-
 put-figure-requires-2 : tie.Need-put-figure-requires-2
 put-figure-requires-2 c κs =
-    let f = c .before .before .before .before in
+    let f = c .before .before .before in
     let s = start (left-letter f) in
     let p = left-put f in
-    let e = ap wide (c .signed-figure .ensures) in
+    let e = ap wide (shown (left-letter f) .signed-figure .ensures) in
     omega (arith, totals-long (s .args .r), s .pre .1, p .0, p .1, e)
 
 put-figure-requires-3 : tie.Need-put-figure-requires-3
@@ -117,13 +120,12 @@ returns c =
     let i = c .before .before .before .before .before .before in
     let h = i .before .before .before .before in
     let g = h .before .before .before .before in
-    let f = g .before .before .before .before .before in
+    let f = g .before .before .before .before in
     let b = left-letter f in
     let s = start b in
     let w = totals-long (s .args .r) in
     let room = s .pre .1 in
-    let e = ap wide (g .before .signed-figure .ensures) in
-    let second = rw (g .before .signed-figure .ensures) at (g .put-figure2 .ensures) in
+    let second = rw (shown b .signed-figure .ensures) at (g .put-figure2 .ensures) in
     rw (totals-line (s .args .r))
     (then (omega (arith, w, room)) (b .put-byte .ensures)
     (then (omega (arith, w, room, letter-put b .0, letter-put b .1)) (f .put-figure .ensures)
@@ -135,9 +137,9 @@ pub put-totals-spec : {M : Type 1} → statement M
 put-totals-spec =
     tie.close
     (tie.spec
+    signed-figure-requires
     put-byte-requires
     put-figure-requires
-    signed-figure-requires
     put-figure-requires-2
     put-figure-requires-3
     put-figure-requires-4

@@ -1,8 +1,10 @@
 -- `fossil` meets its contract: T3 stays within 10^15. Assumes nothing.
 use borrow.Author.Needs.{needs}
-use Prim.Native.Nat.{_-_, _≤_}
+use mathlib.Core.Path.{ap, _∙_}
+use Prim.Native.Nat.{ℕ, _*_, _-_, _≤_}
 use native.Mathlib.Nat.{mul-le-mul}
 use native.Mathlib.Omega.{arith}
+use Rattle.quantity.specs.Rounding.{round}
 use Rattle.quantity.specs.Streams.{fossilGrams}
 use Rattle.grams.proofs.streams.fossil.Statement.{statement}
 use Rattle.grams.proofs.streams.fossil.Tie as tie
@@ -24,7 +26,11 @@ round-ten-thousandths-requires-2 c κs = omega (arith, mul-le-mul (t3-small c) (
 
 returns : tie.Need-returns
 unfolding fossilGrams
-returns c = ((cc), omega (arith, mul-le-mul (t3-small (c .before)) (rest-small (c .before .before))))
+returns c =
+    let rest = 10000 - c .before .before .args .d in (
+      c .round-ten-thousandths2 .ensures .0 ∙ ap (λ (t3 : ℕ). round (t3 * rest) 10000) (c .before .round-ten-thousandths .ensures .0),
+      omega (arith, mul-le-mul (t3-small (c .before)) (rest-small (c .before .before))),
+    )
 
 pub fossil-spec : {M : Type 1} → statement M
 fossil-spec =
