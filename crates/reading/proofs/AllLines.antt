@@ -3,15 +3,19 @@
 use mathlib.Core.Path.{_≡_, refl, sym, ap, _∙_}
 use mathlib.Core.Bool.{true}
 use mathlib.Core.List.{List, [], _∷_, map}
-use Prim.Native.Nat.{ℕ, suc, _+_}
+use Prim.Native.Nat.{ℕ, zero, suc, _+_}
 use native.Mathlib.Omega.{arith}
-use lib.ListN.{length, replicate}
+use lib.ListN.{length, replicate, take, drop}
+use lib.Seq.{drop-drop}
+use native.Mathlib.Numerals.{add-one}
 use Rattle.lines.specs.Lines.{Line}
 use Rattle.lines.specs.Records.{Record, recordOf}
 use Rattle.lines.specs.declared.LineRead.{LineRead}
 use Rattle.goods.specs.Settling.{PAIRS}
 use Rattle.quantity.specs.Limits.{limits}
-use Rattle.sheet.specs.Refusals.{sumOf}
+use Rattle.goods.specs.Sums.{onlyAt}
+use Rattle.sheet.specs.Refusals.{sumOf, from, to}
+use Rattle.attribution.specs.Reckoning.{kilosOf, kilosBetween}
 use Rattle.sheet.specs.Verdict.{accepted, refused, firstOf, lineChecks, linesChecks}
 use Rattle.sheet.proofs.First.{accepted-passes, first-rest, first-here}
 use Rattle.sheet.proofs.Passed.{line-passed}
@@ -31,6 +35,7 @@ pub record Reading (all left : List Line) (w : Works) (kilos : List ℕ) : Type 
   pub standing : Standing above w kilos
   pub verdict : firstOf (linesChecks limits above left) ≡ firstOf (linesChecks limits [] all)
   pub sums : (f : Record → ℕ) → sumOf f above + sumOf f (map recordOf left) ≡ sumOf f (map recordOf all)
+  pub place : drop (length above) all ≡ left
 
 pub reading-start : (all : List Line) (kilos : List ℕ) → NoKilos kilos → Reading all all worksAtStart kilos
 unfolding sumOf
@@ -39,7 +44,25 @@ reading-start all kilos e = record {
   standing = rw e (standing-start worksAtStart (replicate PAIRS 0) refl refl goods-start held-start);
   verdict = refl;
   sums = λ f. omega arith;
+  place = refl;
 }
+
+-- a sum over the first n lines and the others
+sums-parted : (f : Record → ℕ) (n : ℕ) (all : List Line)
+    → sumOf f (map recordOf (take n all)) + sumOf f (map recordOf (drop n all)) ≡ sumOf f (map recordOf all)
+unfolding sumOf
+sums-parted f zero all = omega arith
+sums-parted f (suc n) [] = omega arith
+sums-parted f (suc n) (l ∷ all) = omega (arith, sums-parted f n all)
+
+-- the kilograms of the lines above are those of the first lines of all
+pub kilos-first : {all left : List Line} {w : Works} {kilos : List ℕ} (rd : Reading all left w kilos) (i j : ℕ)
+    → kilosBetween (rd .above) i j ≡ kilosBetween (map recordOf (take (length (rd .above)) all)) i j
+unfolding kilosBetween
+kilos-first {all} rd i j =
+    let f : Record → ℕ = λ r. onlyAt i (from r) (onlyAt j (to r) (kilosOf r)) in
+    let s = rw (rd .place) at (sums-parted f (length (rd .above)) all) in
+    omega (arith, rd .sums f, s)
 
 -- the number that the code gives a line of words l, under the state
 abbrev pub lineGiven : Line → Works → (kilos : List ℕ) → LineRead → ℕ
@@ -81,6 +104,7 @@ module _ (all rest : List Line) (line : Line) (w : Works) (kilos : List ℕ) (rd
       standing = standing-next line l says (rd .above) ok w kilos (rd .standing);
       verdict = sym (first-rest (lineChecks limits (rd .above) line) _ ok) ∙ rd .verdict;
       sums = λ f. let s = rd .sums f in omega arith;
+      place = ap (λ (n : ℕ). drop n all) (sym (add-one (length (rd .above)))) ∙ sym (drop-drop 1 (length (rd .above)) all) ∙ ap (drop 1) (rd .place);
     }
 
 -- no line is left

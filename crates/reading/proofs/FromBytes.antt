@@ -1,15 +1,15 @@
 -- Lines read from the sheet's bytes: the line that starts at a place is the first of those that are left there. Assumes nothing.
-use mathlib.Core.Path.{_≡_, sym, _∙_}
+use mathlib.Core.Path.{_≡_, sym, ap, _∙_}
 use mathlib.Core.Bool.{not}
-use mathlib.Core.List.{List, [], _∷_}
-use Prim.Native.Nat.{ℕ, suc, _+_, _≤_, _<_}
+use mathlib.Core.List.{List, [], _∷_, map}
+use Prim.Native.Nat.{ℕ, suc, _+_, _-_, _≤_, _<_}
 use native.Mathlib.Nat.{lt-of-not-le}
 use native.Mathlib.Decide.{decLe}
 use native.Mathlib.Omega.{arith}
 use borrow.Author.Tests.{eq-eqb, ne-eqb, ltb-true, lt-ltb, le-ltb}
 use lib.Dec.{eqb, ltb}
 use lib.IntN.{ℤ, pos, _+ℤ_, _-ℤ_}
-use lib.ListN.{length, drop}
+use lib.ListN.{length, take, drop}
 use Rattle.lines.specs.Lines.{Line, linesOf}
 use Rattle.lines.specs.Records.{recordOf, recordsOf}
 use Rattle.lines.specs.Words.{ReadAt, lineAt, lineLength}
@@ -21,11 +21,13 @@ use Rattle.ledger.specs.Ledger.{added, chargedAndCredited, booked}
 use Rattle.ledger.specs.declared.Entry.{Entry}
 use Rattle.entries.specs.Entries.{entry}
 use Rattle.entries.specs.Read.{recordRead, LineKeeps}
+use Rattle.goods.specs.Settling.{SIZE, pairs}
+use Rattle.attribution.specs.Reckoning.{kilosBetween}
 use Rattle.works.specs.Works.{worksOf, worksAtStart, countAfter, outputsAfter, takenAfter, kilosAfter, worksAfter, aboveOf, readNumber}
 use Rattle.works.specs.declared.Works.{Works}
-use Rattle.reading.specs.Gathered.{Gathered, NoKilos}
+use Rattle.reading.specs.Gathered.{Gathered, NoKilos, recordsAbove}
 use Rattle.reading.proofs.Standing.{Says}
-use Rattle.reading.proofs.AllLines.{Reading, lineGiven, reading-start, accepted-here, refused-here}
+use Rattle.reading.proofs.AllLines.{Reading, lineGiven, reading-start, kilos-first, accepted-here, refused-here}
 use Rattle.reading.proofs.AllLines.{keeps-here, ended-here, reading-next, reading-verdict}
 use Rattle.reading.proofs.Gathering.{gathered}
 
@@ -69,6 +71,12 @@ module _ (sheet : List ℕ) (at : ℕ) (w : Works) (kilos : List ℕ) (rd : Read
   pub refused-at : (n : ℕ) → n ≡ readNumber limits l (length sheet) (aboveOf w kilos l) → (n ≡ 0 → ⊥)
       → firstOf (linesChecks limits [] (linesOf sheet)) ≡ refused n (w .lines + 1)
   refused-at n e some = refused-here (linesOf sheet) rest line w kilos here l says n (sym number-is ∙ sym e) some
+
+  -- the kilograms that stand there are those of the lines above
+  pub kilos-at : (i j : ℕ) → j < SIZE → pairs kilos i j ≡ kilosBetween (recordsAbove sheet (w .lines + 1)) i j
+  kilos-at i j h =
+      let n : length (here .above) ≡ w .lines + 1 - 1 = omega (arith, here .standing .lines) in
+      here .standing .goods .kilos-at i j h ∙ kilos-first here i j ∙ ap (λ (k : ℕ). kilosBetween (map recordOf (take k (linesOf sheet))) i j) n
 
   module _ (ok : firstOf (lineChecks limits (here .above) (lineAt sheet at)) ≡ accepted) where
     pub keeps-at : LineKeeps l

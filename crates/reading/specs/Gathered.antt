@@ -1,10 +1,10 @@
 -- For the code only: what reading all lines of a sheet leaves: the first refusal, or document 01's figures, process by process.
 use mathlib.Core.Path.{_≡_}
-use mathlib.Core.List.{List, []}
-use Prim.Native.Nat.{ℕ, _≤_, _<_}
-use lib.ListN.{length, replicate}
+use mathlib.Core.List.{List, [], map}
+use Prim.Native.Nat.{ℕ, _-_, _≤_, _<_}
+use lib.ListN.{length, replicate, take}
 use Rattle.lines.specs.Lines.{linesOf}
-use Rattle.lines.specs.Records.{Record, recordsOf}
+use Rattle.lines.specs.Records.{Record, recordOf, recordsOf}
 use Rattle.goods.specs.ByProcess.{SIZE, figures}
 use Rattle.goods.specs.Settling.{PAIRS, pairs}
 use Rattle.ledger.specs.Columns.{signedFigures}
@@ -36,13 +36,20 @@ pub record Gathered (rs : List Record) (w : Works) (kilos : List ℕ) : Type 0 w
   pub outputs-small : (i : ℕ) → output rs i ≤ MOST
   pub room : Room (w .ledger)
 
--- rows 2 to 13 over all lines, and what is gathered where none applies. Where one does nothing is, and the kilograms are of no account
+-- the records of the lines above line k
+abbrev pub recordsAbove : (sheet : List ℕ) → (k : ℕ) → List Record
+recordsAbove sheet k = map recordOf (take (k - 1) (linesOf sheet))
+
+-- rows 2 to 13 over all lines, and what is gathered where none applies. Where one does the kilograms are those of the lines above it, and
+-- nothing else is gathered
 pub record ReadOf (sheet kilos : List ℕ) (r : Read) : Type 0 where
   pub number : refusalNumber (r .refusal) ≡ numberOf (firstOf (linesChecks limits [] (linesOf sheet)))
   pub line : r .line ≡ lineOf (firstOf (linesChecks limits [] (linesOf sheet)))
   pub passed : refusalNumber (r .refusal) ≡ 0 → firstOf (linesChecks limits [] (linesOf sheet)) ≡ accepted
   pub gathered : refusalNumber (r .refusal) ≡ 0 → Gathered (recordsOf sheet) (r .works) kilos
   pub nothing : (refusalNumber (r .refusal) ≡ 0 → ⊥) → r .works ≡ worksAtStart
+  pub kilos-above : (refusalNumber (r .refusal) ≡ 0 → ⊥)
+      → (i j : ℕ) → j < SIZE → pairs kilos i j ≡ kilosBetween (recordsAbove sheet (r .line)) i j
 
 -- a refused sheet: no line counts
 abbrev pub refusedAt : Refusal → (line : ℕ) → Read

@@ -13,10 +13,10 @@ use Rattle.lines.specs.Records.{recordsOf}
 use Rattle.sheet.specs.Verdict.{check, Verdict, accepted, refused, sheetChecks}
 use Rattle.sheet.specs.Verdict.{All, Passes, First}
 use Rattle.sheet.proofs.First.{all-append, accepted-iff, refused-iff, decided}
-use Rattle.attribution.specs.Reckoning.{reckoning}
+use Rattle.attribution.specs.Exact.{NothingAdded}
+use Rattle.attribution.specs.Reckoning.{reckoning, totalsOf}
 use Rattle.attribution.specs.Verdict.{figureTooLarge, reckonerChecks}
-use Rattle.attribution.proofs.Exact.{NothingAdded}
-use Rattle.attribution.proofs.Sheet.{totalsOf, third-property, third-property-exact, third-property-greater}
+use Rattle.attribution.proofs.Sheet.{third-property, third-property-exact, third-property-greater}
 use Rattle.report.specs.Outcome.{sheetReport, spaceTooShort, allChecks, verdict, outcome}
 
 module _ (limits : Limits) (sheet space : List ℕ) where

@@ -35,10 +35,9 @@ fn put_refusal(space: &mut [u8], number: u64, line: usize) -> usize
 }
 
 // What the program `carbon` prints of a sheet: its report, or the refusal's number and line.
-pub fn print(sheet: &[u8], space: &mut [u8]) -> usize
-    requires { ⌜ LONGEST ≤ length (now space) ⌝ }
+pub fn print(sheet: &[u8], space: &mut [u8; LONGEST]) -> usize
     ensures { λ n. ⌜ Put (now (space .entry)) 0 (carbon limits (now (sheet .entry))) (now (space .exit)) n ⌝ }
-    ensures bounded { λ n. ⌜ n ≤ LONGEST ⌝ }
+    ensures bounded { λ n. ⌜ n ≤ length (now (space .exit)) ⌝ }
 {
     let r = reckon(sheet);
     let refusal = r.refusal;

@@ -36,9 +36,6 @@ array-share-prefix-sheet c = search needs
 slice-aggregate-print : tie.Need-slice-aggregate-print
 slice-aggregate-print c = search needs
 
-slice-aggregate-print-2 : tie.Need-slice-aggregate-print-2
-slice-aggregate-print-2 c = search needs
-
 print-requires : tie.Need-print-requires
 print-requires c κs = search needs
 
@@ -46,9 +43,7 @@ array-share-prefix-space : tie.Need-array-share-prefix-space
 array-share-prefix-space c = search needs
 
 slice-aggregate-write-all-2 : tie.Need-slice-aggregate-write-all-2
-slice-aggregate-write-all-2 c =
-    let p = c .before .before .print in
-    sym (length-take-le _ _ (omega (arith, p .ensures .1, p .kept .1 .0)))
+slice-aggregate-write-all-2 c = sym (length-take-le _ _ (c .before .print .ensures .1))
 
 write-all-requires-2 : tie.Need-write-all-requires-2
 write-all-requires-2 c κs = search needs
@@ -79,7 +74,6 @@ main-spec =
     returns
     array-share-prefix-sheet
     slice-aggregate-print
-    slice-aggregate-print-2
     print-requires
     array-share-prefix-space
     slice-aggregate-write-all-2

@@ -16,7 +16,7 @@ use Rattle.entries.specs.Read.{LineKeeps}
 use Rattle.attribution.proofs.EveryKind.{small-entry}
 use Rattle.works.specs.Works.{RoomForLine, aboveOf, readNumber}
 use Rattle.reading.proofs.Standing.{room-for-line, room}
-use Rattle.reading.proofs.FromBytes.{ReadingAt, here, at-start, accepted-at, refused-at, keeps-at, end-at, made-at, verdict-at, gathered-at}
+use Rattle.reading.proofs.FromBytes.{ReadingAt, here, at-start, accepted-at, refused-at, kilos-at, keeps-at, end-at, made-at, verdict-at, gathered-at}
 use Rattle.reading.proofs.read_lines.Statement.{statement}
 use Rattle.reading.proofs.read_lines.Tie as tie
 
@@ -77,6 +77,7 @@ returns c =
       passed = λ z. absurd (some (number ∙ z));
       gathered = λ z. absurd (some (number ∙ z));
       nothing = λ n. refl;
+      kilos-above = λ n. kilos-at _ _ _ _ (rd l) (l .before .loop-test .taken) _ (l .read-line .ensures .0);
     })
 
 -- ---- and accepted
@@ -193,7 +194,7 @@ returns-2 c =
     let done = c .loop-test .left in
     let v = verdict-at _ _ _ _ read done in
     let gathered = gathered-at _ _ _ _ read done in
-    record { number = sym (ap numberOf v); line = sym (ap lineOf v); passed = λ z. v; gathered = λ z. gathered; nothing = λ n. absurd (n refl) }
+    record { number = sym (ap numberOf v); line = sym (ap lineOf v); passed = λ z. v; gathered = λ z. gathered; nothing = λ n. absurd (n refl); kilos-above = λ n. absurd (n refl) }
 
 pub read-lines-spec : {M : Type 1} → statement M
 read-lines-spec =
