@@ -80,7 +80,8 @@ module _ (c : tie.After-settle) where
 
   direct-pooled : PooledOver (ownDirect (at-start .args .t1)) (c .settle .result .«direct_pools» .0) (c .settle .result .«direct_lefts» .0)
   direct-pooled =
-      pooled (at-start .pre .direct) (λ k l h. c .before .before .before .before .before .before .before .before .add-all .ensures .at k l h ∙ own-is raised k l h) (c .before .before .before .before .before .before .before .before .add-all .ensures .outside) (c .settle .ensures .0)
+      let own = c .before .before .before .before .before .before .before .before .add-all .ensures in
+      pooled (at-start .pre .direct) (λ k l h. own .at k l h ∙ own-is raised k l h) (own .outside) (c .settle .ensures .0)
 
   indirect-pooled : PooledOver (ownIndirect (at-start .args .t1)) (c .settle .result .«indirect_pools» .0) (c .settle .result .«indirect_lefts» .0)
   indirect-pooled = pooled (at-start .pre .indirect) (c .before .add-all2 .ensures .at) (c .before .add-all2 .ensures .outside) (c .settle .ensures .1)
@@ -93,11 +94,14 @@ total-requires-2 : tie.Need-total-requires-2
 total-requires-2 c κs = let k = c .before .before .before .before .before .before in (omega (arith, at-start k .pre .few), omega (arith, left-fits k))
 
 total-requires-3 : tie.Need-total-requires-3
-total-requires-3 c κs = let k = c .before .before .before .before .before .before .before .before .before in (omega (arith, at-start k .pre .few), omega (arith, left-fits k))
+total-requires-3 c κs =
+    let k = c .before .before .before .before .before .before .before .before .before in
+    (omega (arith, at-start k .pre .few), omega (arith, left-fits k))
 
 add-t37 : tie.Need-add-t37
 add-t37 c =
-    record { fits = omega (arith, left-fits (c .before .before .before .before .before .before .before .before .before .before .before .before), c .before .before .before .before .before .total2 .ensures, c .before .before .total3 .ensures) }
+    let k = c .before .before .before .before .before .before .before .before .before .before .before .before in
+    record { fits = omega (arith, left-fits k, c .before .before .before .before .before .total2 .ensures, c .before .before .total3 .ensures) }
 
 element-write-indirect : tie.Need-element-write-indirect
 element-write-indirect c = search needs
@@ -108,7 +112,9 @@ returns c =
     let r = raised k in
     let d = direct-pooled k in
     let i = indirect-pooled k in
-    let left = ap₂ (λ (direct indirect : ℕ). direct + indirect) (c .before .before .before .before .before .total2 .ensures) (c .before .before .total3 .ensures) in
+    let direct = c .before .before .before .before .before .total2 .ensures in
+    let indirect = c .before .before .total3 .ensures in
+    let left = ap₂ (λ (direct indirect : ℕ). direct + indirect) direct indirect in
     record {
       direct = r .raise-all .ensures .0;
       indirect = column-inside _ (start r .args .t1 .indirect .0) (indirect-size (start r)) (start r .pre .none-beyond);

@@ -194,7 +194,14 @@ returns-2 c =
     let done = c .loop-test .left in
     let v = verdict-at _ _ _ _ read done in
     let gathered = gathered-at _ _ _ _ read done in
-    record { number = sym (ap numberOf v); line = sym (ap lineOf v); passed = λ z. v; gathered = λ z. gathered; nothing = λ n. absurd (n refl); kilos-above = λ n. absurd (n refl) }
+    record {
+      number = sym (ap numberOf v);
+      line = sym (ap lineOf v);
+      passed = λ z. v;
+      gathered = λ z. gathered;
+      nothing = λ n. absurd (n refl);
+      kilos-above = λ n. absurd (n refl);
+    }
 
 pub read-lines-spec : {M : Type 1} → statement M
 read-lines-spec =

@@ -16,7 +16,8 @@ Inv-loop kilos count outputs direct-pools₀ indirect-pools₀ direct-lefts₀ i
     × Settling count (figures (outputs .0)) (pairs kilos) (figures (indirect-pools₀ .0)) (i - 1) (indirect-pools .0) (indirect-lefts .0)
 
 abbrev μ-loop : tie.MeasureT-loop
-μ-loop kilos count outputs direct-pools₀ indirect-pools₀ direct-lefts₀ indirect-lefts₀ i₀ direct-pools indirect-pools direct-lefts indirect-lefts i = count + 1 - i
+μ-loop kilos count outputs direct-pools₀ indirect-pools₀ direct-lefts₀ indirect-lefts₀ i₀ direct-pools indirect-pools direct-lefts indirect-lefts i =
+    count + 1 - i
 
 loop-holds : tie.Need-loop-holds Inv-loop μ-loop
 loop-holds c =

@@ -41,7 +41,8 @@ returns c =
     let some = c .before .before .if1 .taken in
     let before = c .before .before .before .before .before .before .args .space .now in
     let put = c .put-refusal .ensures in
-    (rw (printed-refusal _ before _ (k .before .reckon .ensures .0) (λ z. some (number ∙ z))) (rw number at (put .0)), put-inside (put .0) (omega (arith, put .1, room-refused (c .before))))
+    let inside = put-inside (put .0) (omega (arith, put .1, room-refused (c .before))) in
+    (rw (printed-refusal _ before _ (k .before .reckon .ensures .0) (λ z. some (number ∙ z))) (rw number at (put .0)), inside)
 
 put-report-requires : tie.Need-put-report-requires
 put-report-requires c κs =
