@@ -87,7 +87,7 @@ diff-add a b c d =
     ∙ ap (λ x. pos (a + c) +ℤ x) (sym (negℤ-+ℤ (pos b) (pos d)))
     ∙ sym (diff-is (a + c) (b + d))
 
-pub diff-neg : (a b : ℕ) → negℤ (diff a b) ≡ diff b a
+diff-neg : (a b : ℕ) → negℤ (diff a b) ≡ diff b a
 diff-neg a b =
     ap negℤ (diff-is a b) ∙ negℤ-+ℤ (pos a) (negℤ (pos b)) ∙ ap (λ x. negℤ (pos a) +ℤ x) (negℤ-negℤ (pos b))
     ∙ +ℤ-comm (negℤ (pos a)) (pos b) ∙ sym (diff-is b a)

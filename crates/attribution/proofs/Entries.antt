@@ -16,7 +16,7 @@ use Rattle.goods.specs.Sums.{onlyAt}
 use Rattle.ledger.specs.Raising.{raisedToZero, gramsAdded}
 use Rattle.entries.specs.Weighed.{streamOf, chargeOf, creditOf, boughtDirectOf, boughtIndirectOf}
 use Rattle.attribution.specs.Attribution.{streams, heatIn, heatOut, gasCharged, gasCredited, electricityIn, electricityOut}
-use Rattle.attribution.specs.Attribution.{boughtDirect, boughtIndirect, balance, indirect}
+use Rattle.attribution.specs.Attribution.{boughtDirect, boughtIndirect, balance}
 use Rattle.attribution.specs.Reckoning.{kilosOf, kilosBetween, entered, uncredited}
 use Rattle.entries.specs.Entries.{entry}
 use Rattle.attribution.specs.Accepted.{Valid}

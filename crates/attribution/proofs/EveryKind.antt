@@ -39,7 +39,7 @@ minus k r = onlyAt k (entry r .credited) (entry r .credit .0)
 
 -- the parts of document 01's sums that one record makes, and the same by its entry: what is added and taken, used, bought, entering and leaving
 -- the works, and uncredited
-abbrev pub Parts : (i : ℕ) → Record → Type 0
+abbrev Parts : (i : ℕ) → Record → Type 0
 Parts i r =
     (onlyAt i (process r) (raisedToZero (streamOf r)) + onlyAt i (to r) (heatOf r) + onlyAt i (to r) (chargeOf r) ≡ plus i r)
     × (onlyAt i (process r) (gramsAdded (streamOf r)) + onlyAt i (from r) (heatOf r) + onlyAt i (from r) (creditOf r)
@@ -53,13 +53,13 @@ Parts i r =
     × (betweenProcesses (from r) (to r) (chargeOf r - creditOf r) ≡ entry r .uncredited .0)
 
 -- an amount of 0 counts nowhere
-pub record Nothing (i : ℕ) (r : Record) : Type 0 where
-  pub at-i : onlyAt i 0 0 ≡ 0
-  pub at-from : onlyAt i (from r) 0 ≡ 0
-  pub at-to : onlyAt i (to r) 0 ≡ 0
-  pub from-outside : onlyAt 0 (from r) 0 ≡ 0
-  pub to-outside : onlyAt 0 (to r) 0 ≡ 0
-  pub between : betweenProcesses (from r) (to r) 0 ≡ 0
+record Nothing (i : ℕ) (r : Record) : Type 0 where
+  at-i : onlyAt i 0 0 ≡ 0
+  at-from : onlyAt i (from r) 0 ≡ 0
+  at-to : onlyAt i (to r) 0 ≡ 0
+  from-outside : onlyAt 0 (from r) 0 ≡ 0
+  to-outside : onlyAt 0 (to r) 0 ≡ 0
+  between : betweenProcesses (from r) (to r) 0 ≡ 0
 
 nothing : (i : ℕ) (r : Record) → Nothing i r
 nothing i r = record {

@@ -17,11 +17,6 @@ unfolding sumOf
 of-add f g [] = refl
 of-add f g (r ∷ rs) = let ih = of-add f g rs in omega arith
 
-pub of-ext : (f g : Record → ℕ) (rs : List Record) → ((r : Record) → f r ≡ g r) → sumOf f rs ≡ sumOf g rs
-unfolding sumOf
-of-ext f g [] h = refl
-of-ext f g (r ∷ rs) h = omega (arith, h r, of-ext f g rs h)
-
 pub of-le : (f g : Record → ℕ) (rs : List Record) → ((r : Record) → f r ≤ g r) → sumOf f rs ≤ sumOf g rs
 unfolding sumOf
 of-le f g [] h = omega arith

@@ -82,7 +82,7 @@ lines-valid limits above (l ∷ ls) n num few passed = (
 
 -- ---- no more is taken of a good than its output
 
-abbrev pub Within : (above : List Record) → Type 0
+abbrev Within : (above : List Record) → Type 0
 Within above = (i : ℕ) → sumOf (takenIn i) above ≤ sumOf (outputIn i) above
 
 within-next : (above : List Record) (r : Record) → outputExceeded above r ≡ false → Within above → Within (r ∷ above)

@@ -16,14 +16,14 @@ pub record Figures : Type 0 where
 abbrev pub figures : List ℕ → ℤ → Figures
 figures grams entered = record { grams = grams; entered = entered }
 
-abbrev pub figuresOf : Reckoning → Figures
+abbrev figuresOf : Reckoning → Figures
 figuresOf r = figures (rowsGrams (r .rows) ++ (r .totals .left ∷ r .totals .raised ∷ r .totals .uncredited ∷ [])) (r .totals .entered)
 
 pub record Example : Type 0 where
   pub sheet : String
   pub expected : Figures
 
-abbrev pub gives : String → List ℕ → ℤ → Example
+abbrev gives : String → List ℕ → ℤ → Example
 gives sheet grams entered = record { sheet = sheet; expected = figures grams entered }
 
 abbrev pub found : Example → Figures

@@ -1,7 +1,6 @@
 // Sheets that another implementation of document 01 judged, kept as data: each is judged again, and number, line, length and every byte of
 // a report space that was filled before are compared. A case is five numbers of eight digits (sheet length, space length, number, line,
 // report length), the sheet, and the report.
-ghost use mathlib.Core.Path.{_≡_};
 ghost use Prim.Native.Nat.{_+_, _≤_, _<_};
 use libc::STDIN_FILENO;
 use libc::STDOUT_FILENO;

@@ -14,7 +14,7 @@ use Rattle.checks.specs.Steps.{orElse, wordNumber, wordsNumber}
 pub else-first : (a b : ℕ) → (a ≡ 0 → ⊥) → orElse a b ≡ a
 else-first a b n = simp (ne-eqb a 0 n)
 
-pub else-next : (a b : ℕ) → a ≡ 0 → orElse a b ≡ b
+else-next : (a b : ℕ) → a ≡ 0 → orElse a b ≡ b
 else-next a b n = simp (eq-eqb a 0 n)
 
 pub else-none : (a : ℕ) → orElse a 0 ≡ a

@@ -18,7 +18,7 @@ use Rattle.closing.specs.declared.Closing.{Closing}
 
 -- ---- one process
 
-abbrev pub balanceHeld : Ledger → (k : ℕ) → ℤ
+abbrev balanceHeld : Ledger → (k : ℕ) → ℤ
 balanceHeld l k = signedFigures (l .balances .0) k
 
 -- direct attribution

@@ -20,7 +20,7 @@ abbrev least : (k : ℕ) → ℕ
 least zero = 0
 least (suc k) = leastOf k
 
-abbrev pub fewest : (bits : ℕ) → ℕ
+abbrev fewest : (bits : ℕ) → ℕ
 fewest bits = bits * 1233 / 4096
 
 -- ---- a table of tests, computed
@@ -57,7 +57,7 @@ at-most zero n h = absurd (omega arith)
 at-most (suc k) n h = length-at-most k n h
 
 module _ (n : ℕ) (h : n < 2 ^ 64) where
-  abbrev pub few : ℕ
+  abbrev few : ℕ
   few = fewest (64 - leadingZeros 64 n)
 
   pub few-small : few < 20

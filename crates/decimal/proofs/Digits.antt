@@ -37,7 +37,7 @@ module _ (l : List ℕ) (at n : ℕ) where
     kept = ap length (w .bytes-are) ∙ length-written l place (w .tail) (omega (arith, long, room))
 
     -- one digit more
-    pub one-written : (before : ℕ) → before + 1 ≡ place → 10 ≤ left → Written (set s before (48 + left % 10)) before (left / 10)
+    one-written : (before : ℕ) → before + 1 ≡ place → 10 ≤ left → Written (set s before (48 + left % 10)) before (left / 10)
     one-written before e h =
         record {
           tail = (48 + left % 10) ∷ w .tail;

@@ -38,7 +38,7 @@ spell-more n h =
     rw (le-ltb n 10 h) (ap (λ (l : List ℕ). l ++ ((48 + n % 10) ∷ [])) (enough n (suc (n / 10)) (n / 10) p q))
 
 -- what holds of one digit, and of a number where it holds of its tenth, holds of every number's spelling
-pub spell-ind : (P : ℕ → List ℕ → Type 0) → ((n : ℕ) → n < 10 → P n ((48 + n) ∷ []))
+spell-ind : (P : ℕ → List ℕ → Type 0) → ((n : ℕ) → n < 10 → P n ((48 + n) ∷ []))
     → ((n : ℕ) → 10 ≤ n → P (n / 10) (spelling (n / 10)) → P n (spelling (n / 10) ++ ((48 + n % 10) ∷ []))) → (n : ℕ) → P n (spelling n)
 spell-ind P one more n = within (suc n) n (omega arith)
   where
@@ -52,7 +52,7 @@ spell-ind P one more n = within (suc n) n (omega arith)
 
 -- ---- digits one after the other
 
-pub digits-append : (a b : List ℕ) → allDigits (a ++ b) ≡ (allDigits a && allDigits b)
+digits-append : (a b : List ℕ) → allDigits (a ++ b) ≡ (allDigits a && allDigits b)
 unfolding allDigits
 digits-append [] b = refl
 digits-append (x ∷ a) b = go (isDigit x) (digits-append a b)
@@ -61,7 +61,7 @@ digits-append (x ∷ a) b = go (isDigit x) (digits-append a b)
     go true h = h
     go false h = refl
 
-pub value-append : (n : ℕ) (a b : List ℕ) → valueFrom n (a ++ b) ≡ valueFrom (valueFrom n a) b
+value-append : (n : ℕ) (a b : List ℕ) → valueFrom n (a ++ b) ≡ valueFrom (valueFrom n a) b
 unfolding valueFrom
 value-append n [] b = refl
 value-append n (x ∷ a) b = value-append (n * 10 + (x - 48)) a b

@@ -29,7 +29,7 @@ length-written l at vs h =
     simp (length-append, length-take-le at l p, length-drop) (omega arith)
 
 -- bytes written after bytes written
-pub written-on : (l : List ℕ) (at : ℕ) (a b : List ℕ) → at + length a ≤ length l
+written-on : (l : List ℕ) (at : ℕ) (a b : List ℕ) → at + length a ≤ length l
     → written (written l at a) (at + length a) b ≡ written l at (a ++ b)
 unfolding written
 written-on l at a b h =

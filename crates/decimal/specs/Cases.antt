@@ -2,13 +2,12 @@
 use mathlib.Core.Bool.{Bool, true, false}
 use mathlib.Core.List.{List, [], _∷_}
 use Prim.Native.String.{String}
-use Rattle.decimal.specs.Number.{isNumber}
 
 pub record Example : Type 0 where
   pub field : String
   pub isNumber : Bool
 
-abbrev pub example : String → Bool → Example
+abbrev example : String → Bool → Example
 example field isNumber = record { field = field; isNumber = isNumber }
 
 unfoldable pub examples : List Example

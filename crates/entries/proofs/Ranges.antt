@@ -27,7 +27,7 @@ pub record InRule (r : Record) (k : ℕ) (rule : Rule) : Type 0 where
   pub high : numberAt r k ≤ rule .highest
 
 -- so is each number from k on whose rule has no `-`
-abbrev pub InRules : Record → (k : ℕ) → List Rule → Type 0
+abbrev InRules : Record → (k : ℕ) → List Rule → Type 0
 InRules r k [] = Unit {0}
 InRules r k (rule ∷ rs) = (rule .dashAllowed ≡ false → InRule r k rule) × InRules r (suc k) rs
 
@@ -133,7 +133,7 @@ module _ (l : LineRead) (sized : length (l .words) ≡ WORDS) (keeps : LineKeeps
       ∙ standard-word (getD rs k noRule) (getD (l .words) k 0) standard (ap (notNumber (getD rs k noRule)) (sym (field-read k h)) ∙ f .0)
 
   -- at a kind, a fact for each field whose rule has no `-`
-  abbrev pub AreWords : (k : ℕ) → List Rule → Type 0
+  abbrev AreWords : (k : ℕ) → List Rule → Type 0
   AreWords k [] = Unit {0}
   AreWords k (rule ∷ rules) = (rule .dashAllowed ≡ false → numberAt (recordRead l) k ≡ getD (l .words) k 0) × AreWords (suc k) rules
 

@@ -20,7 +20,7 @@ use Rattle.sheet.proofs.Table.{allOf, belowCap, rules-fit}
 use Rattle.entries.specs.Read.{fieldRead}
 
 -- a number that is its own word
-abbrev pub OwnWord : Field → Type 0
+abbrev OwnWord : Field → Type 0
 OwnWord (number n) = n < CAP
 OwnWord dash = Unit {0}
 OwnWord other = Unit {0}

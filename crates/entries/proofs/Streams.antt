@@ -74,7 +74,7 @@ module _ (limits : Limits) (r : Record) (keeps : KeepsRanges limits r) (e : kind
   pub process-range : numberAt r 0 ≤ limits .processes
   process-range = fields-in-range ownRow (r .said) kept 0 (omega arith) refl .1
 
-  pub method-range : (1 ≤ numberAt r 1) × (numberAt r 1 ≤ 4)
+  method-range : (1 ≤ numberAt r 1) × (numberAt r 1 ≤ 4)
   method-range = fields-in-range ownRow (r .said) kept 1 (omega arith) refl
 
   -- a row of six rules whose code, c and d admit no `-`

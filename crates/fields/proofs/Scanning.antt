@@ -56,7 +56,7 @@ field-stop s i h w =
 
 -- a byte that is neither is one of the field
 module _ (s : List ℕ) (i : ℕ) (h : i < length s) (p : getD s i 0 ≡ LF → ⊥) (q : getD s i 0 ≡ COMMA → ⊥) where
-  pub longer : fieldLength (drop i s) ≡ suc (fieldLength (drop (i + 1) s))
+  longer : fieldLength (drop i s) ≡ suc (fieldLength (drop (i + 1) s))
   longer = ap fieldLength (from-here s i h) ∙ field-past (getD s i 0) (drop (i + 1) s) p q
 
   pub field-left : fieldAt s i ≡ getD s i 0 ∷ fieldAt s (i + 1)
@@ -114,7 +114,7 @@ digits-none false n h = refl
 -- ---- the pass
 
 -- what the pass gives where it stops
-abbrev pub stopped : (value : ℕ) → (all : Bool) → (end : ℕ) → Scanned
+abbrev stopped : (value : ℕ) → (all : Bool) → (end : ℕ) → Scanned
 stopped value all end = record { value = value; all = all; end = end }
 
 pub none-scanned : (s : List ℕ) (start : ℕ) → start ≤ length s → Scanning s start 0 true start
@@ -122,7 +122,7 @@ none-scanned s start h = record { least = le-refl start; inside = h; capped = om
 
 module _ (s : List ℕ) (start value : ℕ) (all : Bool) (end : ℕ) (k : Scanning s start value all end) where
   -- the field ends where no byte of it is left
-  pub scanned : fieldLength (drop end s) ≡ 0 → ScannedAt s start (stopped value all end)
+  scanned : fieldLength (drop end s) ≡ 0 → ScannedAt s start (stopped value all end)
   scanned z =
       record {
         said = digits-none all value (k .capped) ∙ ap (λ (n : ℕ). digitsFrom all value (take n (drop end s))) (sym z) ∙ k .said;
@@ -212,13 +212,13 @@ said-many (b ∷ c ∷ f) h n = simp (ne-eqb b 48 n) (go (allDigits (b ∷ c ∷
     go true = refl
     go false = refl
 
-pub said-capped : (f : Field) → Capped (saidOf f)
+said-capped : (f : Field) → Capped (saidOf f)
 said-capped (number n) = omega arith
 said-capped dash = tt
 said-capped other = tt
 
 -- what `read_field` promises of a field that says this and ends here
-abbrev pub FieldDone : (s : List ℕ) → (start : ℕ) → (said : Said) → (end : ℕ) → Type 0
+abbrev FieldDone : (s : List ℕ) → (start : ℕ) → (said : Said) → (end : ℕ) → Type 0
 FieldDone s start said end =
     FieldReadAt s start (record { said = said; end = end }) × FieldBounds s start (record { said = said; end = end })
 

@@ -1,14 +1,14 @@
 -- For the code only: a field as the code finds it. Laws join it to Records.
 use mathlib.Core.Path.{_≡_}
-use mathlib.Core.Bool.{Bool, true, false, cond, _&&_}
+use mathlib.Core.Bool.{Bool, true, cond, _&&_}
 use mathlib.Core.List.{List, [], _∷_}
-use Prim.Native.Nat.{ℕ, suc, _+_, _-_, min, _≤_, _<_}
-use lib.Dec.{eqb, ltb, leb}
+use Prim.Native.Nat.{ℕ, suc, _+_, _-_, min, _≤_}
+use lib.Dec.{eqb}
 use lib.ListN.{length, take, drop, getD}
-use Rattle.decimal.specs.Number.{isDigit, allDigits, valueFrom}
+use Rattle.decimal.specs.Number.{allDigits, valueFrom}
 use Rattle.lines.specs.Lines.{LF, COMMA}
 use Rattle.lines.specs.Records.{Field, number, dash, other, fieldOf}
-use Rattle.lines.specs.Words.{CAP, DASH, OTHER, word}
+use Rattle.lines.specs.Words.{CAP, DASH, OTHER}
 use Rattle.fields.specs.declared.Said.{Said}
 use Rattle.fields.specs.declared.Said.the-variants.{Number, Dash, Other}
 use Rattle.fields.specs.declared.FieldRead.{FieldRead}

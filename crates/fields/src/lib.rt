@@ -2,7 +2,7 @@
 ghost use mathlib.Core.Path.{_≡_};
 ghost use mathlib.Core.Bool.{true};
 ghost use Prim.Native.Nat.{_+_, min, _≤_, _<_};
-ghost use lib.ListN.{length, drop, getD};
+ghost use lib.ListN.{length, drop};
 ghost use Rattle.decimal.specs.Number.{isDigit};
 ghost use Rattle.lines.specs.Words.{CAP};
 ghost use Rattle.fields.specs.Scan.{fieldLength, wordOf, digitsSaid};

@@ -23,11 +23,11 @@ pub spelt-parts : (w t : ℕ) → spelt (Parts w t) ≡ spelling w ++ (46 ∷ th
 unfolding spelt
 spelt-parts w t = refl
 
-pub length-parts : (w t : ℕ) → length (spelt (Parts w t)) ≡ length (spelling w) + 4
+length-parts : (w t : ℕ) → length (spelt (Parts w t)) ≡ length (spelling w) + 4
 unfolding spelt three
 length-parts w t = length-append (spelling w) _
 
-pub tailed-append : (a b : List Figure) → tailed (a ++ b) ≡ tailed a ++ tailed b
+tailed-append : (a b : List Figure) → tailed (a ++ b) ≡ tailed a ++ tailed b
 unfolding tailed
 tailed-append [] b = refl
 tailed-append (f ∷ a) b = rw (tailed-append a b, append-assoc)

@@ -1,6 +1,5 @@
 // Document 01, "The report": fields and lines written into a lent space. The definitions are in specs/ and in the report's.
-ghost use mathlib.Core.Path.{_≡_};
-ghost use mathlib.Core.List.{_++_, _∷_, []};
+ghost use mathlib.Core.List.{_∷_, []};
 ghost use Prim.Native.Nat.{_+_, _≤_, _<_};
 ghost use lib.ListN.{length, take};
 ghost use Rattle.decimal.specs.Writing.{Put};

@@ -36,7 +36,7 @@ first-mono zero (t ∷ ts) = omega arith
 first-mono (suc k) [] = omega arith
 first-mono (suc k) (t ∷ ts) = omega (arith, first-mono k ts)
 
-pub kilos-append : (ts us : List Taker) → totalKilos (ts ++ us) ≡ totalKilos ts + totalKilos us
+kilos-append : (ts us : List Taker) → totalKilos (ts ++ us) ≡ totalKilos ts + totalKilos us
 unfolding totalKilos
 kilos-append [] us = omega arith
 kilos-append (t ∷ ts) us = omega (arith, kilos-append ts us)

@@ -12,10 +12,10 @@ pub record Example : Type 0 where
   pub portions : List ℕ
   pub left : ℕ
 
-abbrev pub gives : (pool output : ℕ) → (kilos portions : List ℕ) → (left : ℕ) → Example
+abbrev gives : (pool output : ℕ) → (kilos portions : List ℕ) → (left : ℕ) → Example
 gives pool output kilos portions left = record { pool = pool; output = output; kilos = kilos; portions = portions; left = left }
 
-abbrev pub takersIn : Example → List Taker
+abbrev takersIn : Example → List Taker
 takersIn e = takers (λ j. getD (0 ∷ e .kilos) j 0) 4
 
 abbrev pub portionsIn : Example → List ℕ

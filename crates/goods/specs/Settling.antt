@@ -13,7 +13,7 @@ abbrev pub PAIRS : ℕ
 PAIRS = SIZE * SIZE
 
 -- 2 ^ 61 kilograms, the most that `quotient` divides by: a sheet has at most 10,000,000,000
-abbrev pub largestOutput : ℕ
+abbrev largestOutput : ℕ
 largestOutput = 2305843009213693952
 
 -- the kilograms from process i to process j

@@ -146,9 +146,9 @@ module _ (limits : Limits) (above : List Record) (r : Record) (a : Above) (said 
 -- ---- 2 to 13
 
 -- every check of a line has a number, and the line's
-pub record At (line : ℕ) (c : Check) : Type 0 where
-  pub numbered : c .number ≡ 0 → ⊥
-  pub lined : c .line ≡ line
+record At (line : ℕ) (c : Check) : Type 0 where
+  numbered : c .number ≡ 0 → ⊥
+  lined : c .line ≡ line
 
 all-join : {A : Type 0} (P : A → Type 0) (xs ys : List A) → All P xs → All P ys → All P (xs ++ ys)
 all-join P [] ys a b = b
@@ -237,7 +237,7 @@ module _ (limits : Limits) (small : limits .processes < CAP) (above : List Recor
       passed = last shape refl ∙ ap (λ (n : ℕ). orElse n (orderNumber (kind r) (saidWords r) a)) same-shape ∙ ended (l .ended) _ _
 
   -- the verdict and its line follow from that number
-  pub line-verdict : firstOf (lineChecks limits above l) ≡ cond (eqb (given limits l a) 0) accepted (refused (given limits l a) (suc (length above)))
+  line-verdict : firstOf (lineChecks limits above l) ≡ cond (eqb (given limits l a) 0) accepted (refused (given limits l a) (suc (length above)))
   line-verdict =
       by-number (suc (length above)) (lineChecks limits above l) (line-at limits above l)
       ∙ ap (λ (n : ℕ). cond (eqb n 0) accepted (refused n (suc (length above)))) line-number

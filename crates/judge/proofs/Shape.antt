@@ -65,12 +65,12 @@ module _ (table : Table) (l : Line) (fits : FitsWords (table .rules (recordOf l)
 -- ---- of the record
 
 -- a field and its word: a number of the range, or `-` where it may stand
-abbrev pub SaysBy : (dashAllowed : Bool) → Rule → Field → (word : ℕ) → Type 0
+abbrev SaysBy : (dashAllowed : Bool) → Rule → Field → (word : ℕ) → Type 0
 SaysBy true rule f w = ((f ≡ dash) × (w ≡ DASH)) ⊎ ((f ≡ number w) × InRange rule w)
 SaysBy false rule f w = (f ≡ number w) × InRange rule w
 
 -- the fields of a record from k on, and their words
-abbrev pub Saying : (k : ℕ) → List Rule → Record → (words : List ℕ) → Type 0
+abbrev Saying : (k : ℕ) → List Rule → Record → (words : List ℕ) → Type 0
 Saying k [] r ws = Unit {0}
 Saying k (rule ∷ rs) r ws = SaysBy (rule .dashAllowed) rule (field r k) (getD ws k 0) × Saying (suc k) rs r ws
 

@@ -28,7 +28,7 @@ allRead (l ∷ ls) = (l .ended && readable (recordOf l)) && allRead ls
 -- ---- a field
 
 -- READ AFTER SPELT
-pub read-field : (f : Field) → plain f ≡ true → fieldOf (spellField f) ≡ f
+read-field : (f : Field) → plain f ≡ true → fieldOf (spellField f) ≡ f
 unfolding fieldOf isNumber
 read-field (number n) h = rw (spelling-number n, spelling-value n)
 read-field dash h = refl
@@ -40,7 +40,7 @@ dash-spelt (byte ∷ []) h = ap (λ (x : ℕ). x ∷ []) (sym (eqb-true byte 45 
 dash-spelt (byte ∷ next ∷ bytes) h = absurd (never h)
 
 -- SPELT AFTER READ
-pub spell-field : (bytes : List ℕ) → plain (fieldOf bytes) ≡ true → spellField (fieldOf bytes) ≡ bytes
+spell-field : (bytes : List ℕ) → plain (fieldOf bytes) ≡ true → spellField (fieldOf bytes) ≡ bytes
 unfolding fieldOf
 spell-field bytes h = go (isNumber bytes) refl (isDash bytes) refl h
   where

@@ -8,7 +8,7 @@ use Rattle.goods.specs.Sums.{onlyAt}
 use Rattle.ledger.specs.Raising.{raisedToZero, gramsAdded}
 use Rattle.ledger.specs.declared.Entry.{Entry}
 
-abbrev pub grams : ℕ → Grams
+abbrev grams : ℕ → Grams
 grams n = record { 0 = n }
 
 abbrev pub moved : (charged charge credited credit user electricity entering leaving uncredited : ℕ) → Entry

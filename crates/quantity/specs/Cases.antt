@@ -10,7 +10,7 @@ pub record Example : Type 0 where
   pub found : ℤ
   pub expected : ℤ
 
-abbrev pub gives : ℤ → ℤ → Example
+abbrev gives : ℤ → ℤ → Example
 gives found expected = record { found = found; expected = expected }
 
 unfoldable pub examples : List Example

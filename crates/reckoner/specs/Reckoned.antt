@@ -42,10 +42,10 @@ pub record FiguresOf (rs : List Record) (r : Reckoning) : Type 0 where
   pub entered-small : natAbs (r .entered .0) < wholeGrams
 
 -- a refused sheet has no figures
-abbrev pub noGrams : GramsByProcess
+abbrev noGrams : GramsByProcess
 noGrams = record { 0 = replicate SIZE 0 }
 
-abbrev pub noKilos : KilosByProcess
+abbrev noKilos : KilosByProcess
 noKilos = record { 0 = replicate SIZE 0 }
 
 abbrev pub nothing : Closing

@@ -175,7 +175,7 @@ store-set l k v h =
       | no g ↦ simp (lt-ltb k WORDS (lt-of-not-le g))
     ]
 
-pub none-read : (s : List ℕ) (first : ℕ) → FieldsRead s first (replicate WORDS 0) 0 first
+none-read : (s : List ℕ) (first : ℕ) → FieldsRead s first (replicate WORDS 0) 0 first
 none-read s first = record { size = refl; words = refl; counted = omega arith; ended = refl }
 
 module _ (s : List ℕ) (first : ℕ) (held : List ℕ) (count end : ℕ) (r : FieldsRead s first held count end) where
@@ -193,7 +193,7 @@ module _ (s : List ℕ) (first : ℕ) (held : List ℕ) (count end : ℕ) (r : F
         ended = sym (first-end s (end + 1) e g k) ∙ sym (more-end s end h) ∙ r .ended;
       }
 
-  pub one-read : (f : FieldRead) → commaAt s end ≡ true → FieldReadAt s (end + 1) f
+  one-read : (f : FieldRead) → commaAt s end ≡ true → FieldReadAt s (end + 1) f
       → FieldsRead s first (stored held count (wordOf (f .said))) (count + 1) (f .end)
   one-read f h k =
       rw (store-set held count (wordOf (f .said)) (r .size), add-one count)
@@ -273,7 +273,7 @@ field-short (b ∷ bs) = go (field-short bs) (eqb b LF) (eqb b COMMA)
     go h false true = omega arith
     go h false false = omega arith
 
-pub field-most : (s : List ℕ) (start : ℕ) → start ≤ length s → fieldEnd s start ≤ length s
+field-most : (s : List ℕ) (start : ℕ) → start ≤ length s → fieldEnd s start ≤ length s
 field-most s start h = omega (arith, field-short (drop start s), length-drop start s)
 
 -- a byte of a field stands behind a comma
@@ -327,7 +327,7 @@ module _ (s : List ℕ) (first k : ℕ) (held : List ℕ) (f : Step) (p : Steps 
       go true e = steps-by e (shortAt s (f .end + 1)) (short-before s (f .end + 1))
       go false e = steps-stay
 
-  pub step : (r : Step) → r ≡ stepOf s f → Steps s first (suc k) (set held k (r .word)) r
+  step : (r : Step) → r ≡ stepOf s f → Steps s first (suc k) (set held k (r .word)) r
   step r e = rw e steps-next
 
 -- ---- one step of the code
@@ -376,7 +376,7 @@ module _ (s : List ℕ) (start : ℕ) (h : Head) (k : HeadAt s start h) where
       let end : start + 1 ≡ h .end = field-one s start (a .inside) (inl (a .comma)) (a .letter) ∙ sym (k .is .ends) in
       (a .ends, rw (sym end) (comma-at s (start + 1) (a .comma)))
 
-  pub no-step : Steps s (fieldEnd s start) 0 (replicate WORDS 0) (noStep h)
+  no-step : Steps s (fieldEnd s start) 0 (replicate WORDS 0) (noStep h)
   no-step =
       let e = k .is .ends in
       record {

@@ -4,7 +4,7 @@ use mathlib.Core.List.{List, [], _∷_}
 use Prim.Native.Nat.{ℕ}
 use Prim.Native.String.{String}
 use Rattle.decimal.specs.Text.{bytes}
-use Rattle.report.specs.Outcome.{Outcome, outcome}
+use Rattle.report.specs.Outcome.{Outcome}
 
 -- ---- what `carbon` prints
 
@@ -12,7 +12,7 @@ pub record Printed : Type 0 where
   pub sheet : String
   pub text : String
 
-abbrev pub prints : String → String → Printed
+abbrev prints : String → String → Printed
 prints sheet text = record { sheet = sheet; text = text }
 
 unfoldable pub printed : List Printed
@@ -38,7 +38,7 @@ pub record Given : Type 0 where
   pub space : String
   pub outcome : Outcome
 
-abbrev pub gives : (sheet space : String) → (number line length : ℕ) → (after : String) → Given
+abbrev gives : (sheet space : String) → (number line length : ℕ) → (after : String) → Given
 gives sheet space number line length after = record {
   sheet = sheet;
   space = space;
@@ -63,7 +63,7 @@ pub record Reading : Type 0 where
   pub text : String
   pub isReport : Bool
 
-abbrev pub reads : String → Bool → Reading
+abbrev reads : String → Bool → Reading
 reads text isReport = record { text = text; isReport = isReport }
 
 unfoldable pub readings : List Reading

@@ -16,13 +16,13 @@ pub record Case : Type 0 where
   pub found : List ℕ
   pub expected : List ℕ
 
-abbrev pub gives : List ℕ → List ℕ → Case
+abbrev gives : List ℕ → List ℕ → Case
 gives found expected = record { found = found; expected = expected }
 
-abbrev pub prints : String → String → Case
+abbrev prints : String → String → Case
 prints sheet report = gives (carbon limits (bytes sheet)) (bytes report)
 
-abbrev pub oneKiloEach : List Taker
+abbrev oneKiloEach : List Taker
 oneKiloEach = taker 2 1 ∷ taker 3 1 ∷ []
 
 unfoldable pub marked : List Case

@@ -22,13 +22,13 @@ three-is : (n : ℕ) → n < 1000 → three n ≡ threeDigits n
 unfolding three threeDigits
 three-is n h = let e : n / 100 % 10 ≡ n / 100 = omega arith in rw e
 
-pub held-spelt : (f : Figure) → spelt (held f) ≡ spellFigure f
+held-spelt : (f : Figure) → spelt (held f) ≡ spellFigure f
 unfolding spelt spellFigure
 held-spelt (whole n) = refl
 held-spelt (minus n) = refl
 held-spelt (thousandths n) = ap (λ (l : List ℕ). spelling (n / 1000) ++ (46 ∷ l)) (three-is (n % 1000) (let h : n % 1000 < 1000 = omega arith in h))
 
-pub tailed-held : (fs : List Figure) → tailed (map held fs) ≡ spellFigures fs
+tailed-held : (fs : List Figure) → tailed (map held fs) ≡ spellFigures fs
 unfolding tailed spellFigures
 tailed-held [] = refl
 tailed-held (f ∷ fs) = rw (held-spelt f, tailed-held fs)

@@ -11,7 +11,7 @@ use mir.Val.{boolByte}
 use lib.Dec.{leb}
 use lib.Bits.{bitAnd, bitOr, and-mask, and-le-l, and-le-r, or-add-and}
 use lib.Count.{leadingZeros, leading-length}
-use lib.Pow.{shr-shr, shr-le, shr-lt}
+use lib.Pow.{shr-shr, shr-le}
 use Rattle.shares.specs.Ranges.{PartRange, BitRange}
 
 -- quotient and remainder make up the dividend, and are those of a division
@@ -48,9 +48,6 @@ module _ {b q r p w : ℕ} (range : PartRange p w) (bit : BitRange b q r p w) wh
 
   pub grown-below : r * 2 + b * p < w * 3
   grown-below = omega (arith, added, range .within, bit .below)
-
-  pub doubled-fits : q * 2 < 2 ^ 64
-  doubled-fits = lt-of-mul-lt-mul-right w (lt-of-le-of-lt (let l : q * 2 * w ≤ (q * w + r) * 2 + b * p = omega (arith, mul-right-comm q 2 w) in l) (bit .room))
 
   abbrev grown : ℕ
   grown = r * 2 + b * p

@@ -2,7 +2,7 @@
 use quantity::Grams;
 use quantity::Kilos;
 ghost use mathlib.Core.Path.{_≡_};
-ghost use Prim.Native.Nat.{_+_, _-_, _*_, _/_, _^_, _≤_, _<_};
+ghost use Prim.Native.Nat.{_+_, _-_, _*_, _/_, _≤_, _<_};
 ghost use Rattle.shares.specs.Ranges.{PartRange, BitRange};
 
 // A division under way: the dividend so far is quotient × whole + remainder.

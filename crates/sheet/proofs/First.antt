@@ -34,7 +34,7 @@ pub accepted-iff : (cs : List Check) → (firstOf cs ≡ accepted) ↔ All Passe
 accepted-iff cs = (accepted-passes cs, passes-accepted cs)
 
 -- refused exactly by the first row that applies
-pub refused-first : (cs : List Check) (number line : ℕ) → firstOf cs ≡ refused number line → First cs number line
+refused-first : (cs : List Check) (number line : ℕ) → firstOf cs ≡ refused number line → First cs number line
 unfolding firstOf
 refused-first [] number line h = absurd (not-accepted number line (sym h))
 refused-first (c ∷ cs) number line h = go (refused-first cs number line) (c .applies) refl h
@@ -61,7 +61,7 @@ unfolding firstOf
 first-split [] c after p e = rw e
 first-split (b ∷ before) c after p e = rw (p .0) (first-split before c after (p .1) e)
 
-pub first-refused : (cs : List Check) (number line : ℕ) → First cs number line → firstOf cs ≡ refused number line
+first-refused : (cs : List Check) (number line : ℕ) → First cs number line → firstOf cs ≡ refused number line
 first-refused cs number line f = rw (f .split, first-split (f .before) (f .found) (f .after) (f .earlier) (f .applies), f .its-number, f .its-line)
 
 pub refused-iff : (cs : List Check) (number line : ℕ) → (firstOf cs ≡ refused number line) ↔ First cs number line

@@ -34,11 +34,6 @@ pub record GoodHeld (above : List Record) (f t output taken pair : ℕ) : Type 0
   pub takes : taken ≡ sumOf (takenIn f) above
   pub once : eqb pair 0 ≡ not (anyOf (λ q. is OwnGood q && (eqb (from q) f && eqb (to q) t)) above)
 
--- asked of a G line alone, and only where rows 2 to 10 do not apply
-abbrev pub GoodAsked : (above : List Record) → Kind → (f t processes output taken pair : ℕ) → Type 0
-GoodAsked above kind f t processes output taken pair =
-    kind ≡ OwnGood → 1 ≤ f → f < t → t ≤ processes → GoodHeld above f t output taken pair
-
 -- ---- the lines above, one more
 
 next-named : (n p : ℕ) (a b : Bool) → (a || b) ≡ leb n p → (a || (eqb n (suc p) || b)) ≡ leb n (suc p)

@@ -92,7 +92,7 @@ module _ (limits : Limits) where
   PassedLines above [] = Unit {0}
   PassedLines above (l ∷ ls) = PassedLine above l × PassedLines (recordOf l ∷ above) ls
 
-  pub lines-passed : (above : List Record) (ls : List Line) → All Passes (linesChecks limits above ls) → PassedLines above ls
+  lines-passed : (above : List Record) (ls : List Line) → All Passes (linesChecks limits above ls) → PassedLines above ls
   unfolding linesChecks
   lines-passed above [] h = tt
   lines-passed above (l ∷ ls) h =

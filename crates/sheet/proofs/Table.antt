@@ -31,7 +31,7 @@ kind-letter OwnGood = refl
 kind-letter Unknown = refl
 
 -- kinds of one letter are the same
-pub same-kind : (j k : Kind) → eqb (letter j) (letter k) ≡ true → j ≡ k
+same-kind : (j k : Kind) → eqb (letter j) (letter k) ≡ true → j ≡ k
 same-kind j k e = sym (kind-letter j) ∙ ap kindOf (eqb-true (letter j) (letter k) e) ∙ kind-letter k
 
 pub kind-is : (k : Kind) (r : Record) → is k r ≡ true → kind r ≡ k
@@ -66,7 +66,7 @@ letter-among (k ∷ ks) byte h = go (eqb byte (letter k)) refl (letter-among ks 
     go true e rest h = sym (eqb-true byte (letter k) e)
     go false e rest h = rest h
 
-pub letter-kind : (byte : ℕ) → eqb (letter (kindOf byte)) (letter Unknown) ≡ false → letter (kindOf byte) ≡ byte
+letter-kind : (byte : ℕ) → eqb (letter (kindOf byte)) (letter Unknown) ≡ false → letter (kindOf byte) ≡ byte
 unfolding kindOf
 letter-kind byte h = letter-among kinds byte h
 
@@ -96,7 +96,7 @@ each-passes test [] h = tt
 each-passes test (x ∷ xs) h = let both = and-both (test x) (allOf test xs) h in (both .0, each-passes test xs (both .1))
 
 -- a source stream's fields from code on, by each method and by none
-abbrev pub methodRows : List (List Rule)
+abbrev methodRows : List (List Rule)
 methodRows = combustion ∷ processEmission ∷ massBalance ∷ noMethod ∷ []
 
 pub by-method : (P : List Rule → Type 0) → All P methodRows → (f : Field) → P (methodRules f)
@@ -143,11 +143,11 @@ belowCap rule = ltb (rule .highest) CAP
 abbrev plain : List Rule → (k : ℕ) → Bool
 plain rs k = not (getD rs k (exactly 0) .dashAllowed)
 
-abbrev pub earlyPlain : List Rule → Bool
+abbrev earlyPlain : List Rule → Bool
 earlyPlain rs = allOf (plain rs) (0 ∷ 1 ∷ 2 ∷ 3 ∷ [])
 
 -- no more fields than words
-abbrev pub fitsWords : List Rule → Bool
+abbrev fitsWords : List Rule → Bool
 fitsWords rs = leb (length rs) WORDS && (allOf belowCap rs && earlyPlain rs)
 
 pub record FitsWords (rs : List Rule) : Type 0 where

@@ -11,14 +11,14 @@ pub record Example : Type 0 where
   pub sheet : String
   pub verdict : Verdict
 
-abbrev pub gives : String → Verdict → Example
+abbrev gives : String → Verdict → Example
 gives sheet verdict = record { within = limits; sheet = sheet; verdict = verdict }
 
 -- under smaller limits, so that rows 1 and 2 can be tried on short sheets
-abbrev pub givesWithin : Limits → String → Verdict → Example
+abbrev givesWithin : Limits → String → Verdict → Example
 givesWithin within sheet verdict = record { within = within; sheet = sheet; verdict = verdict }
 
-abbrev pub small : Limits
+abbrev small : Limits
 small = record { processes = 2; bytes = 18; lines = 2 }
 
 unfoldable pub examples : List Example

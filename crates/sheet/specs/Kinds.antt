@@ -72,11 +72,11 @@ abbrev pub kilos : Rule
 kilos = 1 to 10000000000
 
 -- megajoules, of H and W
-abbrev pub megajoules : Rule
+abbrev megajoules : Rule
 megajoules = 1 to 1000000000000
 
 -- a specific figure of B, mg per kg
-abbrev pub specificFigure : Rule
+abbrev specificFigure : Rule
 specificFigure = 0 to 100000000
 
 -- c and d of S, ten-thousandths
@@ -115,7 +115,7 @@ module _ (limits : Limits) where
   processNumber = 1 to (limits .processes)
 
   -- `from` and `to`: 0 is outside the works
-  abbrev pub endNumber : Rule
+  abbrev endNumber : Rule
   endNumber = 0 to (limits .processes)
 
   -- `byMethod` are a source stream's fields from code on

@@ -24,14 +24,14 @@ module _ (w : Works) (kilos : List ℕ) (l : LineRead) where
   -- ---- what is left, by the kind
 
   -- as long as the line is no P line and no G line
-  abbrev pub lineBooked : Works
+  abbrev lineBooked : Works
   lineBooked = worksOf (w .lines + 1) (w .count) (w .outputs .0) (w .taken .0) (booked (w .ledger) (entry (recordRead l)))
 
-  abbrev pub processNoted : Works
+  abbrev processNoted : Works
   processNoted =
       worksOf (w .lines + 1) (w .count + 1) (outputNoted (w .outputs .0) l) (w .taken .0) (booked (w .ledger) (entry (recordRead l)))
 
-  abbrev pub goodNoted : Works
+  abbrev goodNoted : Works
   goodNoted = worksOf (w .lines + 1) (w .count) (w .outputs .0) (takenNoted (w .taken .0) l) (booked (w .ledger) (entry (recordRead l)))
 
   pub after-process : l .letter ≡ letter Process → (worksAfter w l ≡ processNoted) × (kilosAfter kilos l ≡ kilos)

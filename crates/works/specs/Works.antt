@@ -34,7 +34,7 @@ abbrev pub ofPair : (kilos : List ℕ) → (f t : ℕ) → ℕ
 ofPair kilos f t = cond (ltb f SIZE) (cond (ltb t SIZE) (getD kilos (f * SIZE + t) 0) 0) 0
 
 -- kilograms of an own good, none of any other line
-abbrev pub ofGood : (byte : ℕ) → ℕ → ℕ
+abbrev ofGood : (byte : ℕ) → ℕ → ℕ
 ofGood byte n = cond (eqb byte (letter OwnGood)) n 0
 
 -- what the lines above say of a line of this letter and these words, from the parts of the state that the code reads

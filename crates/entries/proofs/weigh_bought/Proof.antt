@@ -19,10 +19,10 @@ use Rattle.entries.proofs.weigh_bought.Statement.{statement}
 use Rattle.entries.proofs.weigh_bought.Tie as tie
 
 -- `B,n,kg,direct,indirect`
-pub record BoughtLine (l : LineRead) : Type 0 where
-  pub direct : (w l 1 ≤ 10000000000) × (w l 2 ≤ 100000000)
-  pub indirect : (w l 1 ≤ 10000000000) × (w l 3 ≤ 100000000)
-  pub entry-is : {g h : ℕ} → g ≡ weight (w l 1) (w l 2) → h ≡ weight (w l 1) (w l 3) → boughtMoved (w l 0) g h ≡ entry (recordRead l)
+record BoughtLine (l : LineRead) : Type 0 where
+  direct : (w l 1 ≤ 10000000000) × (w l 2 ≤ 100000000)
+  indirect : (w l 1 ≤ 10000000000) × (w l 3 ≤ 100000000)
+  entry-is : {g h : ℕ} → g ≡ weight (w l 1) (w l 2) → h ≡ weight (w l 1) (w l 3) → boughtMoved (w l 0) g h ≡ entry (recordRead l)
 
 bought-line : (l : LineRead) → length (l .words) ≡ WORDS → LineKeeps l → l .letter ≡ letter BoughtPrecursor → BoughtLine l
 unfolding rules boughtDirectOf boughtIndirectOf

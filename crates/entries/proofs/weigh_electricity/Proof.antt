@@ -19,9 +19,9 @@ use Rattle.entries.proofs.weigh_electricity.Statement.{statement}
 use Rattle.entries.proofs.weigh_electricity.Tie as tie
 
 -- `E,from,to,kWh,factor`
-pub record ElectricityLine (l : LineRead) : Type 0 where
-  pub ranges : (w l 2 ≤ 100000000000) × (w l 3 ≤ 2000000)
-  pub entry-is : {g : ℕ} → g ≡ weight (w l 2) (w l 3) → electricityMoved (w l 0) (w l 1) g ≡ entry (recordRead l)
+record ElectricityLine (l : LineRead) : Type 0 where
+  ranges : (w l 2 ≤ 100000000000) × (w l 3 ≤ 2000000)
+  entry-is : {g : ℕ} → g ≡ weight (w l 2) (w l 3) → electricityMoved (w l 0) (w l 1) g ≡ entry (recordRead l)
 
 electricity-line : (l : LineRead) → length (l .words) ≡ WORDS → LineKeeps l → l .letter ≡ letter Electricity → ElectricityLine l
 unfolding rules electricityOf

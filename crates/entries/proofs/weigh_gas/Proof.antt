@@ -19,9 +19,9 @@ use Rattle.entries.proofs.weigh_gas.Statement.{statement}
 use Rattle.entries.proofs.weigh_gas.Tie as tie
 
 -- `W,from,to,MJ`
-pub record GasLine (l : LineRead) : Type 0 where
-  pub ranges : (1 ≤ w l 2) × (w l 2 ≤ 1000000000000)
-  pub entry-is : gasMoved (w l 0) (w l 1) (wasteGasCharge (w l 2)) (wasteGasCredit (w l 2)) ≡ entry (recordRead l)
+record GasLine (l : LineRead) : Type 0 where
+  ranges : (1 ≤ w l 2) × (w l 2 ≤ 1000000000000)
+  entry-is : gasMoved (w l 0) (w l 1) (wasteGasCharge (w l 2)) (wasteGasCredit (w l 2)) ≡ entry (recordRead l)
 
 gas-line : (l : LineRead) → length (l .words) ≡ WORDS → LineKeeps l → l .letter ≡ letter WasteGas → GasLine l
 unfolding rules chargeOf creditOf

@@ -19,9 +19,9 @@ use Rattle.entries.proofs.weigh_heat.Statement.{statement}
 use Rattle.entries.proofs.weigh_heat.Tie as tie
 
 -- `H,from,to,MJ,factor`
-pub record HeatLine (l : LineRead) : Type 0 where
-  pub ranges : (w l 2 ≤ 1000000000000) × (w l 3 ≤ 400000)
-  pub entry-is : {g : ℕ} → g ≡ weight (w l 2) (w l 3) → heatMoved (w l 0) (w l 1) g ≡ entry (recordRead l)
+record HeatLine (l : LineRead) : Type 0 where
+  ranges : (w l 2 ≤ 1000000000000) × (w l 3 ≤ 400000)
+  entry-is : {g : ℕ} → g ≡ weight (w l 2) (w l 3) → heatMoved (w l 0) (w l 1) g ≡ entry (recordRead l)
 
 heat-line : (l : LineRead) → length (l .words) ≡ WORDS → LineKeeps l → l .letter ≡ letter MeasurableHeat → HeatLine l
 unfolding rules heatOf

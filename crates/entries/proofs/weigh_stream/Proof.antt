@@ -31,21 +31,21 @@ givenA l = orStandardWord (w l 4) (standardA (w l 1) (w l 2))
 abbrev givenB : LineRead → ℕ
 givenB l = orStandardWord (w l 5) (standardB (w l 2))
 
-pub record StreamLine (l : LineRead) : Type 0 where
-  pub range : {a b : ℕ} → a ≡ givenA l → b ≡ givenB l → StreamRange (w l 1) (w l 3) a b (w l 6) (w l 7)
-  pub entry-is : {a b : ℕ} {z : ℤ} → a ≡ givenA l → b ≡ givenB l → z ≡ streamGrams (w l 1) (w l 3) a b (w l 6) (w l 7)
+record StreamLine (l : LineRead) : Type 0 where
+  range : {a b : ℕ} → a ≡ givenA l → b ≡ givenB l → StreamRange (w l 1) (w l 3) a b (w l 6) (w l 7)
+  entry-is : {a b : ℕ} {z : ℤ} → a ≡ givenA l → b ≡ givenB l → z ≡ streamGrams (w l 1) (w l 3) a b (w l 6) (w l 7)
       → streamMoved (w l 0) z ≡ entry (recordRead l)
 
 -- an S line's words are its numbers; a and b give a value or stand for the standard one
-pub record StreamWords (l : LineRead) : Type 0 where
-  pub process : numberAt (recordRead l) 0 ≡ getD (l .words) 0 0
-  pub method : numberAt (recordRead l) 1 ≡ getD (l .words) 1 0
-  pub code : numberAt (recordRead l) 2 ≡ getD (l .words) 2 0
-  pub mass : numberAt (recordRead l) 3 ≡ getD (l .words) 3 0
-  pub a : (standard : ℕ) → orStandard (field (recordRead l) 4) standard ≡ orStandardWord (getD (l .words) 4 0) standard
-  pub b : (standard : ℕ) → orStandard (field (recordRead l) 5) standard ≡ orStandardWord (getD (l .words) 5 0) standard
-  pub oxidation : numberAt (recordRead l) 6 ≡ getD (l .words) 6 0
-  pub biomass : numberAt (recordRead l) 7 ≡ getD (l .words) 7 0
+record StreamWords (l : LineRead) : Type 0 where
+  process : numberAt (recordRead l) 0 ≡ getD (l .words) 0 0
+  method : numberAt (recordRead l) 1 ≡ getD (l .words) 1 0
+  code : numberAt (recordRead l) 2 ≡ getD (l .words) 2 0
+  mass : numberAt (recordRead l) 3 ≡ getD (l .words) 3 0
+  a : (standard : ℕ) → orStandard (field (recordRead l) 4) standard ≡ orStandardWord (getD (l .words) 4 0) standard
+  b : (standard : ℕ) → orStandard (field (recordRead l) 5) standard ≡ orStandardWord (getD (l .words) 5 0) standard
+  oxidation : numberAt (recordRead l) 6 ≡ getD (l .words) 6 0
+  biomass : numberAt (recordRead l) 7 ≡ getD (l .words) 7 0
 
 stream-words : (l : LineRead) → length (l .words) ≡ WORDS → LineKeeps l → kind (recordRead l) ≡ SourceStream → StreamWords l
 stream-words l sized keeps k =

@@ -1,6 +1,5 @@
 -- `figures::put_byte` meets its contract. Assumes nothing.
 use mathlib.Core.Path.{refl}
-use mathlib.Core.Path.{refl}
 use Rattle.decimal.proofs.Writing.{written-one}
 use borrow.Author.Needs.{needs}
 use Rattle.figures.proofs.put_byte.Statement.{statement}
