@@ -8,10 +8,9 @@ use lib.Dec.{leb}
 use lib.IntN.{ℤ}
 use Rattle.quantity.specs.Limits.{wholeGrams}
 use Rattle.goods.specs.Sums.{sumTo}
-use Rattle.goods.specs.ByProcess.{PROCESSES, figures}
+use Rattle.goods.specs.ByProcess.{PROCESSES, figures, Column}
 use Rattle.goods.specs.Settling.{pairs, Settleable, poolHeld, leftHeld}
 use Rattle.ledger.specs.Columns.{BEFORE_ENTRY, SizeAtMost, signedFigures}
-use Rattle.ledger.specs.Whole.{WholeColumn}
 use Rattle.ledger.specs.Raising.{raisedToZero, gramsAdded}
 use Rattle.ledger.specs.declared.Ledger.{Ledger}
 use Rattle.closing.specs.declared.Closing.{Closing}
@@ -53,13 +52,13 @@ pub record Ready (l : Ledger) (outputs kilos : List ℕ) (count : ℕ) : Type 0 
   pub none-beyond : (k : ℕ) → count < k → indirectHeld l k ≡ 0
 
 pub record Closed (l : Ledger) (outputs kilos : List ℕ) (count : ℕ) (r : Closing) : Type 0 where
-  pub direct : WholeColumn count (directHeld l) (r .direct .0)
-  pub indirect : WholeColumn count (indirectHeld l) (r .indirect .0)
-  pub raised : WholeColumn count (raisedHeld l) (r .raised .0)
-  pub direct-pools : WholeColumn count (poolHeld outputs kilos count (ownDirect l)) (r .«direct_pools» .0)
-  pub indirect-pools : WholeColumn count (poolHeld outputs kilos count (ownIndirect l)) (r .«indirect_pools» .0)
-  pub direct-lefts : WholeColumn count (leftHeld outputs kilos count (ownDirect l)) (r .«direct_lefts» .0)
-  pub indirect-lefts : WholeColumn count (leftHeld outputs kilos count (ownIndirect l)) (r .«indirect_lefts» .0)
+  pub direct : Column count (directHeld l) (r .direct .0)
+  pub indirect : Column count (indirectHeld l) (r .indirect .0)
+  pub raised : Column count (raisedHeld l) (r .raised .0)
+  pub direct-pools : Column count (poolHeld outputs kilos count (ownDirect l)) (r .«direct_pools» .0)
+  pub indirect-pools : Column count (poolHeld outputs kilos count (ownIndirect l)) (r .«indirect_pools» .0)
+  pub direct-lefts : Column count (leftHeld outputs kilos count (ownDirect l)) (r .«direct_lefts» .0)
+  pub indirect-lefts : Column count (leftHeld outputs kilos count (ownIndirect l)) (r .«indirect_lefts» .0)
   pub left : r .left .0 ≡ sumTo count (leftHeld outputs kilos count (ownDirect l)) + sumTo count (leftHeld outputs kilos count (ownIndirect l))
   pub left-small : r .left .0 < wholeGrams
   pub total-raised : r .«total_raised» .0 ≡ sumTo count (raisedHeld l)

@@ -16,7 +16,12 @@ SIZE = PROCESSES + 1
 abbrev pub figures : List ℕ → (k : ℕ) → ℕ
 figures l k = getD l k 0
 
--- the array has the figure of each process 1 .. count at its number
+-- every place outside 1 .. count has 0
+abbrev pub NoneOutside : (count : ℕ) → List ℕ → Type 0
+NoneOutside count a = (k : ℕ) → (1 ≤ k → k ≤ count → ⊥) → figures a k ≡ 0
+
+-- the array has the figure of each process 1 .. count at its number, and 0 in every other place
 pub record Column (count : ℕ) (figure : ℕ → ℕ) (a : List ℕ) : Type 0 where
   pub size : length a ≡ SIZE
   pub at : (k : ℕ) → 1 ≤ k → k ≤ count → figures a k ≡ figure k
+  pub outside : NoneOutside count a

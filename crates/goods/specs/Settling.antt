@@ -58,9 +58,7 @@ module _ (outputs kilos : List ℕ) (n : ℕ) (own : ℕ → ℕ) where
   abbrev pub leftHeld : (k : ℕ) → ℕ
   leftHeld k = leftOf n (figures outputs) (pairs kilos) own k
 
--- the pools and what is left of each; outside 1 .. n pools are as before, and nothing is left
+-- the pools and what is left of each
 pub record PoolsSettled (outputs kilos : List ℕ) (n : ℕ) (before pools lefts : List ℕ) : Type 0 where
   pub pool : Column n (poolHeld outputs kilos n (figures before)) pools
   pub rest : Column n (leftHeld outputs kilos n (figures before)) lefts
-  pub pool-outside : (k : ℕ) → (1 ≤ k → k ≤ n → ⊥) → getD pools k 0 ≡ getD before k 0
-  pub left-outside : (k : ℕ) → (1 ≤ k → k ≤ n → ⊥) → getD lefts k 0 ≡ 0

@@ -7,11 +7,10 @@ use native.Mathlib.Decide.{decLe, ℕ-discrete}
 use native.Mathlib.Omega.{arith}
 use lib.ListN.{length, set, replicate, length-set, length-replicate}
 use lib.Seq.{getD-set-same, getD-set-other}
-use Rattle.goods.specs.ByProcess.{SIZE, figures}
-use Rattle.ledger.specs.Whole.{WholeColumn}
+use Rattle.goods.specs.ByProcess.{SIZE, figures, Column}
 use Rattle.ledger.proofs.Bounds.{each-same}
 
-pub column-none : (figure : ℕ → ℕ) → WholeColumn 0 figure (replicate SIZE 0)
+pub column-none : (figure : ℕ → ℕ) → Column 0 figure (replicate SIZE 0)
 column-none figure = record {
   size = length-replicate {A = ℕ} SIZE 0;
   at = λ k l h. absurd (omega arith);
@@ -19,8 +18,8 @@ column-none figure = record {
 }
 
 -- the figure of the next process
-pub column-more : (n : ℕ) (figure : ℕ → ℕ) (a : List ℕ) (v : ℕ) → n + 1 < SIZE → WholeColumn n figure a → v ≡ figure (n + 1)
-    → WholeColumn (n + 1) figure (set a (n + 1) v)
+pub column-more : (n : ℕ) (figure : ℕ → ℕ) (a : List ℕ) (v : ℕ) → n + 1 < SIZE → Column n figure a → v ≡ figure (n + 1)
+    → Column (n + 1) figure (set a (n + 1) v)
 column-more n figure a v room c e = record {
   size = length-set a (n + 1) v ∙ c .size;
   at = λ k l h.
@@ -33,7 +32,7 @@ column-more n figure a v room c e = record {
 }
 
 -- what place 0 holds, outside the works, taken off
-pub column-inside : (n : ℕ) (a : List ℕ) → length a ≡ SIZE → ((k : ℕ) → n < k → figures a k ≡ 0) → WholeColumn n (figures a) (set a 0 0)
+pub column-inside : (n : ℕ) (a : List ℕ) → length a ≡ SIZE → ((k : ℕ) → n < k → figures a k ≡ 0) → Column n (figures a) (set a 0 0)
 column-inside n a size none = record {
   size = length-set a 0 0 ∙ size;
   at = λ k l h. getD-set-other a 0 k 0 0 (λ (p : k ≡ 0). omega arith);

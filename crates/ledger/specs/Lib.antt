@@ -1,5 +1,4 @@
--- For the reader: Raising, Whole. For the code only: Ledger, Columns.
+-- For the reader: Raising. For the code only: Ledger, Columns.
 pub mod Ledger
 pub mod Raising
-pub mod Whole
 pub mod Columns

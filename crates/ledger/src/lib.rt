@@ -4,11 +4,10 @@ ghost use lib.IntN.{pos, natAbs, _+ℤ_, _-ℤ_};
 ghost use Prim.Native.Nat.{_+_, _≤_, _<_};
 ghost use Rattle.quantity.specs.Limits.{wholeGrams, lineGrams};
 ghost use Rattle.goods.specs.Sums.{sumTo};
-ghost use Rattle.goods.specs.ByProcess.{SIZE, figures};
+ghost use Rattle.goods.specs.ByProcess.{SIZE, figures, Column};
 ghost use Rattle.goods.specs.Settling.{NoFigures};
 ghost use Rattle.ledger.specs.Ledger.{Small, added, chargedAndCredited};
 ghost use Rattle.ledger.specs.Raising.{gramsAdded, raisedToZero};
-ghost use Rattle.ledger.specs.Whole.{WholeColumn};
 ghost use Rattle.ledger.specs.Columns.{BEFORE_ENTRY, SizeAtMost, RoomAt, FitTogether, signedFigures, together};
 use goods::GramsByProcess;
 use goods::SIZE;
@@ -138,8 +137,8 @@ pub fn raise_all(
     requires { ⌜ count < SIZE ⌝ }
     requires { ⌜ SizeAtMost BEFORE_ENTRY (now balances) ⌝ }
     requires { ⌜ NoFigures (now direct) × NoFigures (now raised) ⌝ }
-    ensures direct { λ r. ⌜ WholeColumn count (λ k. raisedToZero (signedFigures (now (balances .entry)) k)) (now (direct .exit)) ⌝ }
-    ensures raised { λ r. ⌜ WholeColumn count (λ k. gramsAdded (signedFigures (now (balances .entry)) k)) (now (raised .exit)) ⌝ }
+    ensures direct { λ r. ⌜ Column count (λ k. raisedToZero (signedFigures (now (balances .entry)) k)) (now (direct .exit)) ⌝ }
+    ensures raised { λ r. ⌜ Column count (λ k. gramsAdded (signedFigures (now (balances .entry)) k)) (now (raised .exit)) ⌝ }
 {
     let mut done: usize = 0;
     while done < count {
@@ -157,7 +156,7 @@ pub fn add_all(both: &mut [u64; SIZE], a: &[u64; SIZE], b: &[u64; SIZE], count: 
     requires { ⌜ count < SIZE ⌝ }
     requires { ⌜ FitTogether count (now a) (now b) ⌝ }
     requires { ⌜ NoFigures (now both) ⌝ }
-    ensures { λ r. ⌜ WholeColumn count (together (now (a .entry)) (now (b .entry))) (now (both .exit)) ⌝ }
+    ensures { λ r. ⌜ Column count (together (now (a .entry)) (now (b .entry))) (now (both .exit)) ⌝ }
 {
     let mut done: usize = 0;
     while done < count {

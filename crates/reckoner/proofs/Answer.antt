@@ -16,10 +16,9 @@ use Rattle.sheet.specs.Verdict.{Verdict, accepted, refused, firstOf, linesCheck
 use Rattle.checks.specs.Numbers.{refusalNumber}
 use Rattle.checks.specs.declared.refusals.Refusal.{Refusal}
 use Rattle.sheet.proofs.First.{accepted-passes, numbered}
-use Rattle.ledger.specs.Whole.{WholeColumn}
+use Rattle.goods.specs.ByProcess.{Column, figures}
 use Rattle.closing.specs.Closing.{Ready, Closed, anyLarge}
 use Rattle.closing.specs.declared.Closing.{Closing}
-use Rattle.goods.specs.ByProcess.{figures}
 use Rattle.attribution.specs.Verdict.{reckonerChecks}
 use Rattle.reading.specs.Gathered.{ReadOf}
 use Rattle.reckoner.specs.Reckoned.{FiguresOf, Reckoned, refusedBy}
@@ -123,7 +122,7 @@ module _ (sheet : List ℕ) where
             (left-is-entered-raised-uncredited (recordsOf sheet) ok)
 
         -- row 15 does not apply
-        below : {figure : ℕ → ℕ} {a : List ℕ} → WholeColumn (read .works .count) figure a
+        below : {figure : ℕ → ℕ} {a : List ℕ} → Column (read .works .count) figure a
             → ((k : ℕ) → 1 ≤ k → k ≤ read .works .count → figure k < wholeGrams) → anyLarge (read .works .count) (figures a) ≡ false
         below {a = a} col h = none-large (read .works .count) (figures a) (λ k l m. let e = col .at k l m in let f = h k l m in omega arith)
 

@@ -6,11 +6,10 @@ use native.Mathlib.Omega.{arith}
 use Rattle.lines.specs.Records.{Record}
 use Rattle.goods.specs.Sums.{sumTo}
 use Rattle.goods.specs.Goods.{poolOf, leftOf}
-use Rattle.goods.specs.ByProcess.{figures}
+use Rattle.goods.specs.ByProcess.{figures, NoneOutside, Column}
 use Rattle.goods.specs.Settling.{pairs}
 use Rattle.goods.proofs.Sums.{sum-cong}
 use Rattle.goods.proofs.Same.{pool-cong, left-cong}
-use Rattle.ledger.specs.Whole.{NoneOutside, WholeColumn}
 use Rattle.ledger.specs.Raising.{raisedToZero}
 use Rattle.closing.specs.Closing.{Closed}
 use Rattle.closing.specs.declared.Closing.{Closing}
@@ -26,8 +25,8 @@ use Rattle.reckoner.proofs.Ready.{own-direct-is, own-indirect-is, raise
 
 module _ (rs : List Record) (w : Works) (kilos : List ℕ) (g : Gathered rs w kilos) (ok : Accepted rs) (c : Closing)
     (closed : Closed (w .ledger) (w .outputs .0) kilos (w .count) c) where
-  column : {figure other : ℕ → ℕ} {a : List ℕ} → WholeColumn (w .count) figure a → ((k : ℕ) → 1 ≤ k → k ≤ w .count → figure k ≡ other k)
-      → WholeColumn (w .count) other a
+  column : {figure other : ℕ → ℕ} {a : List ℕ} → Column (w .count) figure a → ((k : ℕ) → 1 ≤ k → k ≤ w .count → figure k ≡ other k)
+      → Column (w .count) other a
   column h same = record { size = h .size; at = λ k l m. h .at k l m ∙ same k l m; outside = h .outside }
 
   -- pools and lefts over the code's arrays are those over document 01's figures

@@ -5,10 +5,9 @@ use Prim.Native.Nat.{ℕ, _≤_, _<_}
 use lib.IntN.{pos, natAbs}
 use lib.ListN.{replicate}
 use Rattle.lines.specs.Records.{Record, recordsOf}
-use Rattle.goods.specs.ByProcess.{SIZE}
+use Rattle.goods.specs.ByProcess.{SIZE, Column}
 use Rattle.goods.specs.declared.GramsByProcess.{GramsByProcess}
 use Rattle.goods.specs.declared.KilosByProcess.{KilosByProcess}
-use Rattle.ledger.specs.Whole.{WholeColumn}
 use Rattle.quantity.specs.Limits.{limits, wholeGrams}
 use Rattle.sheet.specs.Verdict.{accepted, firstOf, numberOf, lineOf}
 use Rattle.checks.specs.Numbers.{refusalNumber}
@@ -26,14 +25,14 @@ pub record FiguresOf (rs : List Record) (r : Reckoning) : Type 0 where
   pub few : r .count ≤ limits .processes
   pub made : (k : ℕ) → 1 ≤ k → k ≤ r .count → 1 ≤ output rs k
   pub outputs-small : (k : ℕ) → output rs k ≤ MOST
-  pub outputs : WholeColumn (r .count) (output rs) (r .outputs .0)
-  pub directs : WholeColumn (r .count) (direct rs) (r .figures .direct .0)
-  pub indirects : WholeColumn (r .count) (indirect rs) (r .figures .indirect .0)
-  pub raiseds : WholeColumn (r .count) (raised rs) (r .figures .raised .0)
-  pub direct-pools : WholeColumn (r .count) (directPool rs) (r .figures .«direct_pools» .0)
-  pub indirect-pools : WholeColumn (r .count) (indirectPool rs) (r .figures .«indirect_pools» .0)
-  pub direct-lefts : WholeColumn (r .count) (directLeft rs) (r .figures .«direct_lefts» .0)
-  pub indirect-lefts : WholeColumn (r .count) (indirectLeft rs) (r .figures .«indirect_lefts» .0)
+  pub outputs : Column (r .count) (output rs) (r .outputs .0)
+  pub directs : Column (r .count) (direct rs) (r .figures .direct .0)
+  pub indirects : Column (r .count) (indirect rs) (r .figures .indirect .0)
+  pub raiseds : Column (r .count) (raised rs) (r .figures .raised .0)
+  pub direct-pools : Column (r .count) (directPool rs) (r .figures .«direct_pools» .0)
+  pub indirect-pools : Column (r .count) (indirectPool rs) (r .figures .«indirect_pools» .0)
+  pub direct-lefts : Column (r .count) (directLeft rs) (r .figures .«direct_lefts» .0)
+  pub indirect-lefts : Column (r .count) (indirectLeft rs) (r .figures .«indirect_lefts» .0)
   pub left-is : r .figures .left .0 ≡ totalLeft rs
   pub entered-is : r .entered .0 ≡ entered rs
   pub raised-is : r .figures .«total_raised» .0 ≡ totalRaised rs

@@ -13,7 +13,7 @@ use borrow.Author.Tests.{eqb-true, eqb-false}
 use Rattle.quantity.specs.Limits.{wholeGrams}
 use Rattle.goods.specs.Sums.{sumTo}
 use Rattle.goods.specs.Goods.{takers, portionOf, poolOf, leftOf}
-use Rattle.goods.specs.ByProcess.{SIZE, figures, Column}
+use Rattle.goods.specs.ByProcess.{SIZE, figures, NoneOutside, Column}
 use Rattle.goods.specs.Settling.{pairs, CanPassOn, PassedOn, Settleable, poolHeld, PoolsSettled}
 use Rattle.goods.proofs.Sums.{sum-suc, sum-mono}
 use Rattle.goods.proofs.Portions.{portion-is}
@@ -72,17 +72,13 @@ module _ (n : ℕ) (output : ℕ → ℕ) (kilos : ℕ → ℕ → ℕ) (own : �
 
   pub record Settling (i : ℕ) (pools lefts : List ℕ) : Type 0 where
     pub pool : Column n (held i) pools
-    pub pool-outside : (k : ℕ) → (1 ≤ k → k ≤ n → ⊥) → getD pools k 0 ≡ own k
     pub rest : Column i (leftOf n output kilos own) lefts
-    pub left-outside : (k : ℕ) → (1 ≤ k → k ≤ i → ⊥) → getD lefts k 0 ≡ 0
 
-  pub settling-none : (pools : List ℕ) → length pools ≡ SIZE → ((k : ℕ) → getD pools k 0 ≡ own k) → Settling 0 pools (replicate SIZE 0)
+  pub settling-none : (pools : List ℕ) → length pools ≡ SIZE → NoneOutside n pools → ((k : ℕ) → getD pools k 0 ≡ own k) → Settling 0 pools (replicate SIZE 0)
   unfolding held sumTo
-  settling-none pools e same = record {
-    pool = record { size = e; at = λ k l h. omega (arith, same k) };
-    pool-outside = λ k o. same k;
-    rest = record { size = length-replicate {A = ℕ} SIZE 0; at = λ k l h. absurd (omega arith) };
-    left-outside = λ k o. zeros SIZE k;
+  settling-none pools e none same = record {
+    pool = record { size = e; at = λ k l h. omega (arith, same k); outside = none };
+    rest = record { size = length-replicate {A = ℕ} SIZE 0; at = λ k l h. absurd (omega arith); outside = λ k o. zeros SIZE k };
   }
 
 module _ {n : ℕ} {output : ℕ → ℕ} {kilos : ℕ → ℕ → ℕ} {own : ℕ → ℕ} {i : ℕ} {pools lefts : List ℕ}
@@ -124,11 +120,14 @@ module _ {n : ℕ} {output : ℕ → ℕ} {kilos : ℕ → ℕ → ℕ} {own : �
         pool = record {
           size = p .size ∙ t .pool .size;
           at = λ k a b. p .taken k a b ∙ rw (pool-next h, held-next n output kilos own i k, t .pool .at k a b);
+          outside = λ k o. p .outside k o ∙ t .pool .outside k o;
         };
-        pool-outside = λ k o. p .outside k o ∙ t .pool-outside k o;
-        rest = record { size = length-set lefts (suc i) rest ∙ t .rest .size; at = λ k a b. go k a b (eqb k (suc i)) refl };
-        left-outside = λ k o.
-            getD-set-other lefts (suc i) k rest 0 (λ (e : k ≡ suc i). o (omega arith) (omega arith)) ∙ t .left-outside k (λ a b. o a (omega arith));
+        rest = record {
+          size = length-set lefts (suc i) rest ∙ t .rest .size;
+          at = λ k a b. go k a b (eqb k (suc i)) refl;
+          outside = λ k o.
+              getD-set-other lefts (suc i) k rest 0 (λ (e : k ≡ suc i). o (omega arith) (omega arith)) ∙ t .rest .outside k (λ a b. o a (omega arith));
+        };
       }
     where
       go : (k : ℕ) → 1 ≤ k → k ≤ suc i → (b : Bool) → eqb k (suc i) ≡ b → getD (set lefts (suc i) rest) k 0 ≡ leftOf n output kilos own k
@@ -146,10 +145,12 @@ module _ {outputs kilos before pools lefts : List ℕ} {n i : ℕ} (s : Settleab
   pub settling-all : n ≡ i → PoolsSettled outputs kilos n before pools lefts
   settling-all e =
       record {
-        pool = record { size = t .pool .size; at = at-pool };
-        rest = record { size = t .rest .size; at = λ k a b. t .rest .at k a (omega arith) };
-        pool-outside = t .pool-outside;
-        left-outside = λ k o. t .left-outside k (λ a b. o a (omega arith));
+        pool = record { size = t .pool .size; at = at-pool; outside = t .pool .outside };
+        rest = record {
+          size = t .rest .size;
+          at = λ k a b. t .rest .at k a (omega arith);
+          outside = λ k o. t .rest .outside k (λ a b. o a (omega arith));
+        };
       }
     where
       at-pool : (k : ℕ) → 1 ≤ k → k ≤ n → getD pools k 0 ≡ poolHeld outputs kilos n (figures before) k

@@ -2,7 +2,7 @@
 ghost use mathlib.Core.Path.{_≡_};
 ghost use Prim.Native.Nat.{_≤_};
 ghost use lib.ListN.{length};
-ghost use Rattle.goods.specs.ByProcess.{PROCESSES, SIZE, figures};
+ghost use Rattle.goods.specs.ByProcess.{PROCESSES, SIZE, figures, NoneOutside};
 ghost use Rattle.goods.specs.Settling.{pairs, CanPassOn, PassedOn, Settleable, PoolsSettled};
 use goods::GramsByProcess;
 use goods::KilosByPair;
@@ -97,6 +97,7 @@ pub fn settle(
 ) -> Settled
     requires { ⌜ count ≤ PROCESSES ⌝ }
     requires { ⌜ (length (own .direct .0) ≡ SIZE) × (length (own .indirect .0) ≡ SIZE) ⌝ }
+    requires { ⌜ NoneOutside count (own .direct .0) × NoneOutside count (own .indirect .0) ⌝ }
     requires { ⌜ Settleable count (figures (outputs .0)) (pairs (now kilos)) (figures (own .direct .0)) ⌝ }
     requires { ⌜ Settleable count (figures (outputs .0)) (pairs (now kilos)) (figures (own .indirect .0)) ⌝ }
     ensures { λ r. ⌜ PoolsSettled (outputs .0) (now (kilos .entry)) count (own .direct .0) (r .«direct_pools» .0) (r .«direct_lefts» .0) ⌝ }

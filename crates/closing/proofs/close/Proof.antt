@@ -60,7 +60,10 @@ settle-requires c κs =
       start k .pre .few,
       (
         (d .size, i .size),
-        (settleable-cong (λ n l h. sym (d .at n l h)) (settleable k), settleable-cong (λ n l h. sym (i .at n l h)) (start k .pre .indirect)),
+        (
+          (d .outside, i .outside),
+          (settleable-cong (λ n l h. sym (d .at n l h)) (settleable k), settleable-cong (λ n l h. sym (i .at n l h)) (start k .pre .indirect)),
+        ),
       ),
     )
 
@@ -81,10 +84,10 @@ module _ (c : tie.After-settle) where
   direct-pooled : PooledOver (ownDirect (at-start .args .t1)) (c .settle .result .«direct_pools» .0) (c .settle .result .«direct_lefts» .0)
   direct-pooled =
       let own = c .before .before .before .before .before .before .before .before .add-all .ensures in
-      pooled (at-start .pre .direct) (λ k l h. own .at k l h ∙ own-is raised k l h) (own .outside) (c .settle .ensures .0)
+      pooled (at-start .pre .direct) (λ k l h. own .at k l h ∙ own-is raised k l h) (c .settle .ensures .0)
 
   indirect-pooled : PooledOver (ownIndirect (at-start .args .t1)) (c .settle .result .«indirect_pools» .0) (c .settle .result .«indirect_lefts» .0)
-  indirect-pooled = pooled (at-start .pre .indirect) (c .before .add-all2 .ensures .at) (c .before .add-all2 .ensures .outside) (c .settle .ensures .1)
+  indirect-pooled = pooled (at-start .pre .indirect) (c .before .add-all2 .ensures .at) (c .settle .ensures .1)
 
   left-fits : sumTo (at-start .args .count) (figures (c .settle .result .«direct_lefts» .0))
       + sumTo (at-start .args .count) (figures (c .settle .result .«indirect_lefts» .0)) < wholeGrams

@@ -4,13 +4,13 @@ use Prim.Native.Nat.{_+_, _-_, _≤_}
 use native.Mathlib.Omega.{arith}
 use borrow.Author.Needs.{needs}
 use Rattle.ledger.specs.Columns.{together}
-use Rattle.ledger.specs.Whole.{WholeColumn}
+use Rattle.goods.specs.ByProcess.{Column}
 use Rattle.ledger.proofs.Columns.{column-none, column-more}
 use Rattle.ledger.proofs.add_all.Statement.{statement}
 use Rattle.ledger.proofs.add_all.Tie as tie
 
 abbrev Inv-loop : tie.InvT-loop
-Inv-loop both₀ a b count done₀ both done = (done ≤ count) × (WholeColumn done (together a b) both)
+Inv-loop both₀ a b count done₀ both done = (done ≤ count) × (Column done (together a b) both)
 
 abbrev μ-loop : tie.MeasureT-loop
 μ-loop both₀ a b count done₀ both done = count - done

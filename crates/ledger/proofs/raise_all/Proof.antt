@@ -10,7 +10,7 @@ use mir.Val.{toZ, ofZ}
 use Rattle.ledger.proofs.Sizes.{kept}
 use Rattle.ledger.specs.Raising.{raisedToZero, gramsAdded}
 use Rattle.ledger.specs.Columns.{signedFigures}
-use Rattle.ledger.specs.Whole.{WholeColumn}
+use Rattle.goods.specs.ByProcess.{Column}
 use Rattle.ledger.proofs.Columns.{column-none, column-more}
 use Rattle.ledger.proofs.raise_all.Statement.{statement}
 use Rattle.ledger.proofs.raise_all.Tie as tie
@@ -18,8 +18,8 @@ use Rattle.ledger.proofs.raise_all.Tie as tie
 abbrev Inv-loop : tie.InvT-loop
 Inv-loop direct₀ raised₀ balances count done₀ direct raised done =
     (done ≤ count)
-    × (WholeColumn done (λ k. raisedToZero (signedFigures balances k)) direct)
-    × (WholeColumn done (λ k. gramsAdded (signedFigures balances k)) raised)
+    × (Column done (λ k. raisedToZero (signedFigures balances k)) direct)
+    × (Column done (λ k. gramsAdded (signedFigures balances k)) raised)
 
 abbrev μ-loop : tie.MeasureT-loop
 μ-loop direct₀ raised₀ balances count done₀ direct raised done = count - done

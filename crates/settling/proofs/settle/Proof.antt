@@ -24,8 +24,8 @@ loop-holds c =
     let s = c .before .before in (
       omega arith,
       omega arith,
-      settling-none _ _ _ _ (s .args .own .direct .0) (s .pre .1 .0 .0) (λ k. refl),
-      settling-none _ _ _ _ (s .args .own .indirect .0) (s .pre .1 .0 .1) (λ k. refl),
+      settling-none _ _ _ _ (s .args .own .direct .0) (s .pre .1 .0 .0) (s .pre .1 .1 .0 .0) (λ k. refl),
+      settling-none _ _ _ _ (s .args .own .indirect .0) (s .pre .1 .0 .1) (s .pre .1 .1 .0 .1) (λ k. refl),
     )
 
 mul-t16 : tie.Need-mul-t16 Inv-loop μ-loop
@@ -42,7 +42,7 @@ pass-on-requires c κs =
       (inv .0, omega arith, pre .0),
       (
         (inv .2 .pool .size, inv .3 .pool .size),
-        (settling-can (pre .1 .1 .0) (inv .2) (omega arith) (omega arith), settling-can (pre .1 .1 .1) (inv .3) (omega arith) (omega arith)),
+        (settling-can (pre .1 .1 .1 .0) (inv .2) (omega arith) (omega arith), settling-can (pre .1 .1 .1 .1) (inv .3) (omega arith) (omega arith)),
       ),
     )
 
@@ -68,7 +68,7 @@ loop-again : tie.Need-loop-again Inv-loop μ-loop
 loop-again c =
     let k = c .before .before in
     let h = k .before .before .before in
-    let pre = h .before .before .before .pre .1 .1 in
+    let pre = h .before .before .before .pre .1 .1 .1 in
     let inv = h .loop .inv in
     let e : h .loop .i + 1 - 1 ≡ h .loop .i = omega arith in (
       omega arith,
@@ -80,7 +80,7 @@ loop-again c =
 returns : tie.Need-returns Inv-loop μ-loop
 returns c =
     let h = c .before in
-    let pre = h .before .before .before .pre .1 .1 in
+    let pre = h .before .before .before .pre .1 .1 .1 in
     (settling-all (pre .0) (h .loop .inv .2) (omega arith), settling-all (pre .1) (h .loop .inv .3) (omega arith))
 
 pub settle-spec : {M : Type 1} → statement M
