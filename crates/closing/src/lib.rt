@@ -13,7 +13,6 @@ use ledger::raise_all;
 use ledger::total;
 use quantity::Grams;
 use quantity::limits::WHOLE_GRAMS;
-use settling::BothByProcess;
 use settling::settle;
 
 // Grams of each process by its number, and the totals `left` and `raised` of the works.
@@ -50,11 +49,7 @@ pub fn close(l: Ledger, outputs: KilosByProcess, kilos: &KilosByPair, count: usi
         &l.bought_indirect.0,
         count,
     );
-    let own = BothByProcess {
-        direct: own_direct,
-        indirect: own_indirect,
-    };
-    let settled = settle(own, outputs, kilos, count);
+    let settled = settle(own_direct, own_indirect, outputs, kilos, count);
     let direct_pools = settled.direct_pools;
     let indirect_pools = settled.indirect_pools;
     let direct_lefts = settled.direct_lefts;

@@ -1,7 +1,9 @@
 -- For the code only: what settling the pools of a works asks and gives, over the arrays that the code holds.
 use mathlib.Core.Path.{_≡_}
+use mathlib.Core.Bool.{Bool, false, _||_, _&&_}
 use mathlib.Core.List.{List}
-use Prim.Native.Nat.{ℕ, _+_, _*_, _^_, _≤_, _<_}
+use Prim.Native.Nat.{ℕ, zero, suc, _+_, _*_, _^_, _≤_, _<_}
+use lib.Dec.{ltb}
 use lib.ListN.{length, getD, replicate}
 use Rattle.quantity.specs.Limits.{wholeGrams}
 use Rattle.goods.specs.Sums.{sumTo}
@@ -36,6 +38,11 @@ pub record PassedOn (n from output : ℕ) (kilosTo : ℕ → ℕ) (before after 
   pub taken : (k : ℕ) → 1 ≤ k → k ≤ n → getD after k 0 ≡ getD before k 0 + portionOf (getD before from 0) output (takers kilosTo n) k
   pub outside : (k : ℕ) → (1 ≤ k → k ≤ n → ⊥) → getD after k 0 ≡ getD before k 0
   pub left-is : rest ≡ left (getD before from 0) output (takers kilosTo n)
+
+-- a process behind the given one, up to n, takes kilograms
+unfoldable pub anyTaker : (kilosTo : ℕ → ℕ) → (from n : ℕ) → Bool
+anyTaker kilosTo from zero = false
+anyTaker kilosTo from (suc n) = anyTaker kilosTo from n || (ltb from (suc n) && ltb 0 (kilosTo (suc n)))
 
 -- ---- a works of n processes
 

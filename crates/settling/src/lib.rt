@@ -3,7 +3,7 @@ ghost use mathlib.Core.Path.{_≡_};
 ghost use Prim.Native.Nat.{_≤_};
 ghost use lib.ListN.{length};
 ghost use Rattle.goods.specs.ByProcess.{PROCESSES, SIZE, figures, NoneOutside};
-ghost use Rattle.goods.specs.Settling.{pairs, CanPassOn, PassedOn, Settleable, PoolsSettled};
+ghost use Rattle.goods.specs.Settling.{pairs, CanPassOn, PassedOn, anyTaker, Settleable, PoolsSettled};
 use goods::GramsByProcess;
 use goods::KilosByPair;
 use goods::KilosByProcess;
@@ -12,12 +12,6 @@ use quantity::Grams;
 use quantity::Kilos;
 use shares::BothGrams;
 use shares::portions;
-
-// A figure of each process, of direct and of indirect grams: the pools, or what is left of them.
-pub struct BothByProcess {
-    pub direct: GramsByProcess,
-    pub indirect: GramsByProcess,
-}
 
 // The pools once a process has passed its good on, and what is left of its own.
 pub struct Passed {
@@ -29,21 +23,22 @@ pub struct Passed {
 // Process `from` passes portions of its pools on to its takers, by rising number. In document 01's terms `pools` has P, `output` is A, `taken` C(k−1),
 // `through` C(k), and `given` has ⌊P × C(k−1)/A⌋.
 fn pass_on(
-    before: BothByProcess,
+    direct_before: GramsByProcess,
+    indirect_before: GramsByProcess,
     output: Kilos,
     kilos: &KilosByPair,
     from: usize,
     count: usize,
 ) -> Passed
     requires { ⌜ (1 ≤ from) × (from ≤ count) × (count ≤ PROCESSES) ⌝ }
-    requires { ⌜ (length (before .direct .0) ≡ SIZE) × (length (before .indirect .0) ≡ SIZE) ⌝ }
-    requires { ⌜ CanPassOn count from (output .0) (pairs (now kilos) from) (before .direct .0) ⌝ }
-    requires { ⌜ CanPassOn count from (output .0) (pairs (now kilos) from) (before .indirect .0) ⌝ }
-    ensures { λ r. ⌜ PassedOn count from (output .0) (pairs (now (kilos .entry)) from) (before .direct .0) (r .direct .0) (r .left .direct .0) ⌝ }
-    ensures { λ r. ⌜ PassedOn count from (output .0) (pairs (now (kilos .entry)) from) (before .indirect .0) (r .indirect .0) (r .left .indirect .0) ⌝ }
+    requires { ⌜ (length («direct_before» .0) ≡ SIZE) × (length («indirect_before» .0) ≡ SIZE) ⌝ }
+    requires { ⌜ CanPassOn count from (output .0) (pairs (now kilos) from) («direct_before» .0) ⌝ }
+    requires { ⌜ CanPassOn count from (output .0) (pairs (now kilos) from) («indirect_before» .0) ⌝ }
+    ensures { λ r. ⌜ PassedOn count from (output .0) (pairs (now (kilos .entry)) from) («direct_before» .0) (r .direct .0) (r .left .direct .0) ⌝ }
+    ensures { λ r. ⌜ PassedOn count from (output .0) (pairs (now (kilos .entry)) from) («indirect_before» .0) (r .indirect .0) (r .left .indirect .0) ⌝ }
 {
-    let mut direct = before.direct;
-    let mut indirect = before.indirect;
+    let mut direct = direct_before;
+    let mut indirect = indirect_before;
     let pools = BothGrams {
         direct: Grams(direct.0[from]),
         indirect: Grams(indirect.0[from]),
@@ -57,6 +52,7 @@ fn pass_on(
     while to < count {
         to += 1;
         let kg = kilos[from * SIZE + to];
+        // Of no kilograms the portions are 0 either way.
         if kg > 0 {
             let through = Kilos(taken.0 + kg);
             let taker = portions(pools, given, through, output);
@@ -80,6 +76,21 @@ fn pass_on(
     }
 }
 
+// Whether the good of process `from` goes to another process.
+fn has_takers(kilos: &KilosByPair, from: usize, count: usize) -> bool
+    requires { ⌜ (from ≤ count) × (count ≤ PROCESSES) ⌝ }
+    ensures { λ r. ⌜ r ≡ anyTaker (pairs (now (kilos .entry)) from) from count ⌝ }
+{
+    let mut to = from;
+    while to < count {
+        to += 1;
+        if kilos[from * SIZE + to] > 0 {
+            return true;
+        }
+    }
+    false
+}
+
 // The pools of all processes, and what is left of each.
 pub struct Settled {
     pub direct_pools: GramsByProcess,
@@ -88,38 +99,41 @@ pub struct Settled {
     pub indirect_lefts: GramsByProcess,
 }
 
-// The pools of processes 1 .. count, settled one after the other. `own` is the attribution of each process and its bought grams.
+// The pools of processes 1 .. count, settled one after the other. `direct` and `indirect` are the attribution of each process and its bought grams.
+// Columns that go into a function and come out of it are copied, so only a process with takers does so.
 pub fn settle(
-    own: BothByProcess,
+    direct: GramsByProcess,
+    indirect: GramsByProcess,
     outputs: KilosByProcess,
     kilos: &KilosByPair,
     count: usize,
 ) -> Settled
     requires { ⌜ count ≤ PROCESSES ⌝ }
-    requires { ⌜ (length (own .direct .0) ≡ SIZE) × (length (own .indirect .0) ≡ SIZE) ⌝ }
-    requires { ⌜ NoneOutside count (own .direct .0) × NoneOutside count (own .indirect .0) ⌝ }
-    requires { ⌜ Settleable count (figures (outputs .0)) (pairs (now kilos)) (figures (own .direct .0)) ⌝ }
-    requires { ⌜ Settleable count (figures (outputs .0)) (pairs (now kilos)) (figures (own .indirect .0)) ⌝ }
-    ensures { λ r. ⌜ PoolsSettled (outputs .0) (now (kilos .entry)) count (own .direct .0) (r .«direct_pools» .0) (r .«direct_lefts» .0) ⌝ }
-    ensures { λ r. ⌜ PoolsSettled (outputs .0) (now (kilos .entry)) count (own .indirect .0) (r .«indirect_pools» .0) (r .«indirect_lefts» .0) ⌝ }
+    requires { ⌜ (length (direct .0) ≡ SIZE) × (length (indirect .0) ≡ SIZE) ⌝ }
+    requires { ⌜ NoneOutside count (direct .0) × NoneOutside count (indirect .0) ⌝ }
+    requires { ⌜ Settleable count (figures (outputs .0)) (pairs (now kilos)) (figures (direct .0)) ⌝ }
+    requires { ⌜ Settleable count (figures (outputs .0)) (pairs (now kilos)) (figures (indirect .0)) ⌝ }
+    ensures { λ r. ⌜ PoolsSettled (outputs .0) (now (kilos .entry)) count (direct .0) (r .«direct_pools» .0) (r .«direct_lefts» .0) ⌝ }
+    ensures { λ r. ⌜ PoolsSettled (outputs .0) (now (kilos .entry)) count (indirect .0) (r .«indirect_pools» .0) (r .«indirect_lefts» .0) ⌝ }
 {
-    let mut direct_pools = own.direct;
-    let mut indirect_pools = own.indirect;
+    let mut direct_pools = direct;
+    let mut indirect_pools = indirect;
     let mut direct_lefts = GramsByProcess([0; SIZE]);
     let mut indirect_lefts = GramsByProcess([0; SIZE]);
-    let mut i = 1;
-    while i <= count {
-        let output = Kilos(outputs.0[i]);
-        let pools = BothByProcess {
-            direct: direct_pools,
-            indirect: indirect_pools,
-        };
-        let passed = pass_on(pools, output, kilos, i, count);
-        direct_pools = passed.direct;
-        indirect_pools = passed.indirect;
-        direct_lefts.0[i] = passed.left.direct.0;
-        indirect_lefts.0[i] = passed.left.indirect.0;
+    let mut i = 0;
+    while i < count {
         i += 1;
+        if has_takers(kilos, i, count) {
+            let output = Kilos(outputs.0[i]);
+            let passed = pass_on(direct_pools, indirect_pools, output, kilos, i, count);
+            direct_pools = passed.direct;
+            indirect_pools = passed.indirect;
+            direct_lefts.0[i] = passed.left.direct.0;
+            indirect_lefts.0[i] = passed.left.indirect.0;
+        } else {
+            direct_lefts.0[i] = direct_pools.0[i];
+            indirect_lefts.0[i] = indirect_pools.0[i];
+        }
     }
     Settled {
         direct_pools,

@@ -101,8 +101,8 @@ total-requires-3 c κs =
     let k = c .before .before .before .before .before .before .before .before .before in
     (omega (arith, at-start k .pre .few), omega (arith, left-fits k))
 
-add-t37 : tie.Need-add-t37
-add-t37 c =
+add-t36 : tie.Need-add-t36
+add-t36 c =
     let k = c .before .before .before .before .before .before .before .before .before .before .before .before in
     record { fits = omega (arith, left-fits k, c .before .before .before .before .before .total2 .ensures, c .before .before .total3 .ensures) }
 
@@ -142,6 +142,6 @@ close-spec =
     settle-requires
     total-requires-2
     total-requires-3
-    add-t37
+    add-t36
     element-write-indirect
     returns)

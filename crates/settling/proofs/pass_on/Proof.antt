@@ -19,26 +19,26 @@ Inv-loop output kilos from count direct₀ indirect₀ pools taken₀ given₀ t
 abbrev μ-loop : tie.MeasureT-loop
 μ-loop output kilos from count direct₀ indirect₀ pools taken₀ given₀ to₀ direct indirect taken given to = count - to
 
-mul-t16 : tie.Need-mul-t16 Inv-loop μ-loop
-mul-t16 c = omega arith
+mul-t17 : tie.Need-mul-t17 Inv-loop μ-loop
+mul-t17 c = omega arith
 
-element-copy-out-t19 : tie.Need-element-copy-out-t19 Inv-loop μ-loop
-element-copy-out-t19 c = omega arith
+element-copy-out-t20 : tie.Need-element-copy-out-t20 Inv-loop μ-loop
+element-copy-out-t20 c = omega arith
 
-mul-t21 : tie.Need-mul-t21 Inv-loop μ-loop
-mul-t21 c = omega arith
+mul-t22 : tie.Need-mul-t22 Inv-loop μ-loop
+mul-t22 c = omega arith
 
-element-copy-out-t24 : tie.Need-element-copy-out-t24 Inv-loop μ-loop
-element-copy-out-t24 c = omega arith
+element-copy-out-t25 : tie.Need-element-copy-out-t25 Inv-loop μ-loop
+element-copy-out-t25 c = omega arith
 
 loop-holds : tie.Need-loop-holds Inv-loop μ-loop
 loop-holds c =
-    let s = c .before .before .before .before in
+    let s = c .before .before in
     let ahead = s .pre .1 .1 .0 .ahead in
     (omega arith, s .pre .0 .1, passing-none _ _ _ _ (s .args .from) ahead, passing-none _ _ _ _ (s .args .from) ahead)
 
 abbrev start : tie.At-loop Inv-loop μ-loop → tie.Start Inv-loop μ-loop
-start h = h .before .before .before .before .before
+start h = h .before .before .before
 
 -- in a turn: the kilograms taken so far are within the output
 taken-within : (h : tie.At-loop Inv-loop μ-loop) → h .loop .to < start h .args .count
@@ -124,11 +124,11 @@ mul-indirect-2 c = omega arith
 element-write-indirect : tie.Need-element-write-indirect Inv-loop μ-loop
 element-write-indirect c = omega arith
 
-add-t33 : tie.Need-add-t33 Inv-loop μ-loop
-add-t33 c = record { fits = given-direct-fits (c .before .before .before .before .before .before) }
+add-t34 : tie.Need-add-t34 Inv-loop μ-loop
+add-t34 c = record { fits = given-direct-fits (c .before .before .before .before .before .before) }
 
-add-t37 : tie.Need-add-t37 Inv-loop μ-loop
-add-t37 c = record { fits = given-indirect-fits (c .before .before .before .before .before .before .before .before) }
+add-t38 : tie.Need-add-t38 Inv-loop μ-loop
+add-t38 c = record { fits = given-indirect-fits (c .before .before .before .before .before .before .before .before) }
 
 loop-less : tie.Need-loop-less Inv-loop μ-loop
 loop-less c = omega arith
@@ -153,13 +153,13 @@ loop-again-2 c =
     let none : pairs (start h .args .kilos .now) (start h .args .from) (h .loop .to + 1) ≡ 0 = omega arith in
     (omega arith, omega arith, passing-skip (h .loop .inv .2) none, passing-skip (h .loop .inv .3) none)
 
-sub-t19 : tie.Need-sub-t19 Inv-loop μ-loop
-sub-t19 c =
+sub-t20 : tie.Need-sub-t20 Inv-loop μ-loop
+sub-t20 c =
     let h = c .before .before .before in
     given-fits (h .loop .inv .2) (start h .args .count) (start h .pre .1 .1 .0 .within) (omega arith)
 
-sub-t24 : tie.Need-sub-t24 Inv-loop μ-loop
-sub-t24 c =
+sub-t25 : tie.Need-sub-t25 Inv-loop μ-loop
+sub-t25 c =
     let h = c .before .before .before .before .before in
     given-fits (h .loop .inv .3) (start h .args .count) (start h .pre .1 .1 .0 .within) (omega arith)
 
@@ -175,10 +175,10 @@ pass-on-spec =
     (tie.spec
     Inv-loop
     μ-loop
-    mul-t16
-    element-copy-out-t19
-    mul-t21
-    element-copy-out-t24
+    mul-t17
+    element-copy-out-t20
+    mul-t22
+    element-copy-out-t25
     loop-holds
     add-to
     mul-kg
@@ -197,12 +197,12 @@ pass-on-spec =
     add-indirect
     mul-indirect-2
     element-write-indirect
-    add-t33
-    add-t37
+    add-t34
+    add-t38
     loop-less
     loop-again
     loop-less-2
     loop-again-2
-    sub-t19
-    sub-t24
+    sub-t20
+    sub-t25
     returns)
