@@ -11,7 +11,7 @@ pub mod report;
 pub mod samples;
 pub mod sheet;
 
-use reckoning::{Account, Works};
+use reckoning::{Account, Both, Works};
 use refusals::{Fault, Refusal, judge};
 use report::Report;
 use sheet::{Field, Fields, MOST_BYTES, MOST_FIELDS, MOST_LINES, read_line};
@@ -30,7 +30,18 @@ pub struct Outcome {
 /// Writes the report of the sheet at the start of the space. The space past
 /// the report, and on a refusal all of it, is left as it was.
 pub fn report_into(sheet: &[u8], space: &mut [u8]) -> Outcome {
-    let refusal = match whole_report(sheet) {
+    report_into_by(Both::portion, sheet, space)
+}
+
+/// As `report_into`, with ⌊P × C/A⌋ of both pools P by a function that is given
+/// the pools, C and A, and promises these quotients. Another way to them can so
+/// be timed, all else being equal.
+pub fn report_into_by(
+    portion: impl Fn(Both, u64, u64) -> Both,
+    sheet: &[u8],
+    space: &mut [u8],
+) -> Outcome {
+    let refusal = match whole_report(portion, sheet) {
         Ok(report) => {
             let bytes = report.as_bytes();
             if let Some(place) = space.get_mut(..bytes.len()) {
@@ -54,37 +65,49 @@ pub fn report_into(sheet: &[u8], space: &mut [u8]) -> Outcome {
 
 /// The report of the sheet, or the refusal's number and line.
 pub fn report(sheet: &[u8]) -> Result<Vec<u8>, (u32, u32)> {
-    match whole_report(sheet) {
+    match whole_report(Both::portion, sheet) {
         Ok(report) => Ok(report.as_bytes().to_vec()),
         Err(refusal) => Err((refusal.fault as u32, refusal.line)),
     }
 }
 
-fn whole_report(sheet: &[u8]) -> Result<Report, Refusal> {
-    reckon(sheet).map(|account| Report::of(&account))
+fn whole_report(portion: impl Fn(Both, u64, u64) -> Both, sheet: &[u8]) -> Result<Report, Refusal> {
+    reckon_by(portion, sheet).map(|account| Report::of(&account))
 }
 
 /// Reads, judges and reckons the whole sheet.
 pub fn reckon(sheet: &[u8]) -> Result<Account, Refusal> {
+    reckon_by(Both::portion, sheet)
+}
+
+fn reckon_by(portion: impl Fn(Both, u64, u64) -> Both, sheet: &[u8]) -> Result<Account, Refusal> {
+    let mut works = Works::default();
+    read(sheet, &mut works)?;
+    works.settle(portion).map_err(on_no_line)
+}
+
+/// Reads and judges the whole sheet, and enters its lines. Compiled once, so
+/// that the reading is the same whatever gives the quotients.
+#[inline(never)]
+fn read(sheet: &[u8], works: &mut Works) -> Result<(), Refusal> {
     if sheet.len() > MOST_BYTES {
         return Err(on_no_line(Fault::TooManyBytes));
     }
     if sheet.is_empty() {
         return Err(on_no_line(Fault::EmptySheet));
     }
-    let mut works = Works::default();
     let mut fields = [Field::OTHER; MOST_FIELDS];
     let mut rest = sheet;
     let mut number = 0;
     while !rest.is_empty() {
         number += 1;
-        let length = take_line(rest, number, &mut fields, &mut works).map_err(|fault| Refusal {
+        let length = take_line(rest, number, &mut fields, works).map_err(|fault| Refusal {
             fault,
             line: number,
         })?;
         rest = &rest[length..];
     }
-    works.settle().map_err(on_no_line)
+    Ok(())
 }
 
 /// Enters the line at the start of `rest` and gives its length. What `fields`

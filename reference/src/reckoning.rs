@@ -120,7 +120,7 @@ impl Both {
 
     /// ⌊P × taken/output⌋ for each of the two pools; taken is at most output.
     #[inline]
-    fn portion(self, taken: u64, output: u64) -> Both {
+    pub fn portion(self, taken: u64, output: u64) -> Both {
         Both {
             direct: portion(self.direct, taken, output),
             indirect: portion(self.indirect, taken, output),
@@ -271,8 +271,9 @@ impl Works {
     }
 
     /// The figures of the report. Goods only go from a lower to a higher
-    /// number, so each process is complete when its turn comes.
-    pub fn settle(&self) -> Result<Account, Fault> {
+    /// number, so each process is complete when its turn comes. `portion` gives
+    /// what `Both::portion` does.
+    pub fn settle(&self, portion: impl Fn(Both, u64, u64) -> Both) -> Result<Account, Fault> {
         let mut account = Account {
             count: self.count,
             rows: [Row::default(); MOST_PROCESSES],
@@ -297,7 +298,7 @@ impl Works {
             for (taker, kg) in process.takers.iter().enumerate() {
                 if *kg != 0 {
                     taken += kg;
-                    let passed_now = pool.portion(taken, process.output);
+                    let passed_now = portion(pool, taken, process.output);
                     received[taker].add(passed_now.less(passed));
                     passed = passed_now;
                 }
