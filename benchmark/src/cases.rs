@@ -35,6 +35,7 @@ pub fn cases() -> Vec<Case> {
         Case::accepted("full", "full sheet of mixed lines", mixed(MOST_BYTES)),
         Case::accepted("short", "4,096 short lines", short_lines()),
         Case::accepted("goods", "16 processes, all 120 pairs", all_pairs()),
+        Case::accepted("no-goods", "16 processes, no goods", no_goods()),
         Case::accepted("tiny", "example of document 01", EXAMPLE.into()),
         refused_last(),
         refused_first(),
@@ -74,9 +75,8 @@ fn short_lines() -> Vec<u8> {
     sheet
 }
 
-/// 16 processes with heat, power and a bought precursor each, and a G line for
-/// every pair.
-fn all_pairs() -> Vec<u8> {
+/// 16 processes with heat, power and a bought precursor each.
+fn no_goods() -> Vec<u8> {
     let mut sheet = Vec::new();
     for n in 1..=16 {
         writeln!(sheet, "P,{n},{KILOS}").unwrap();
@@ -86,6 +86,12 @@ fn all_pairs() -> Vec<u8> {
         writeln!(sheet, "E,0,{n},{n}000000000,400000").unwrap();
         writeln!(sheet, "B,{n},{n}0000000,1900000,250000").unwrap();
     }
+    sheet
+}
+
+/// The same, and a G line for every pair.
+fn all_pairs() -> Vec<u8> {
+    let mut sheet = no_goods();
     for from in 1..16 {
         for to in from + 1..=16 {
             writeln!(sheet, "G,{from},{to},{}", 600_000_000 + from * 1_000 + to).unwrap();

@@ -1,9 +1,13 @@
-//! The proved library and the plain implementation over the same sheets: how
-//! long each takes, and how much stack.
+//! The proved library and the plain implementation, with its own division and
+//! with the proved library's walk, over the same sheets: how long each takes, and
+//! how much stack.
 
 pub mod cases;
 pub mod stack;
 pub mod timing;
+pub mod walk;
+
+use reference::Outcome;
 
 /// Room for any report: 16 lines of at most 202 bytes and one of at most 90.
 pub const SPACE: usize = 4_096;
@@ -20,9 +24,17 @@ pub fn proved(sheet: &[u8], space: &mut [u8]) -> Said {
     (answer.number, answer.line, answer.length)
 }
 
-/// The implementation in plain Rust.
+/// The implementation in plain Rust, which divides.
 pub fn plain(sheet: &[u8], space: &mut [u8]) -> Said {
-    let answer = reference::report_into(sheet, space);
+    said(reference::report_into(sheet, space))
+}
+
+/// The implementation in plain Rust with the walk in the place of its division.
+pub fn plain_walk(sheet: &[u8], space: &mut [u8]) -> Said {
+    said(reference::report_into_by(walk::portion, sheet, space))
+}
+
+fn said(answer: Outcome) -> Said {
     (
         u64::from(answer.number),
         answer.line as usize,

@@ -1,12 +1,12 @@
 //! One case, so many times, by one implementation:
-//! `one_case proved|plain CASE TIMES`. Prints the bytes of its sheet.
+//! `one_case proved|plain|walk CASE TIMES`. Prints the bytes of its sheet.
 
 use std::env::args;
 use std::process::exit;
 
 use benchmark::cases::{cases, growth};
 use benchmark::timing::run;
-use benchmark::{Implementation, plain, proved};
+use benchmark::{Implementation, plain, plain_walk, proved};
 
 fn main() {
     let given: Vec<String> = args().skip(1).collect();
@@ -16,6 +16,7 @@ fn main() {
     let implementation: Implementation = match which.as_str() {
         "proved" => proved,
         "plain" => plain,
+        "walk" => plain_walk,
         _ => usage(),
     };
     let mut all = cases().into_iter().chain(growth());
@@ -32,7 +33,7 @@ fn usage() -> ! {
         .chain(growth())
         .map(|case| case.name)
         .collect();
-    eprintln!("usage: one_case proved|plain CASE TIMES");
+    eprintln!("usage: one_case proved|plain|walk CASE TIMES");
     eprintln!("cases: {}", names.join(" "));
     exit(2)
 }
