@@ -13,7 +13,7 @@ use Rattle.goods.specs.Settling.{pairs, Settleable, poolHeld, leftHeld}
 use Rattle.ledger.specs.Columns.{BEFORE_ENTRY, SizeAtMost, signedFigures}
 use Rattle.ledger.specs.Raising.{raisedToZero, gramsAdded}
 use Rattle.ledger.specs.declared.Ledger.{Ledger}
-use Rattle.closing.specs.declared.Closing.{Closing}
+use Rattle.reckoning.specs.declared.Closing.{Closing}
 
 -- ---- one process
 

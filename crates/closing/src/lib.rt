@@ -13,22 +13,8 @@ use ledger::raise_all;
 use ledger::total;
 use quantity::Grams;
 use quantity::limits::WHOLE_GRAMS;
+use reckoning::Closing;
 use settling::settle;
-
-// Grams of each process by its number, and the totals `left` and `raised` of the works.
-pub struct Closing {
-    // attribution, and the grams that raised the balance to zero
-    pub direct: GramsByProcess,
-    pub indirect: GramsByProcess,
-    pub raised: GramsByProcess,
-    // pools, and what is left of them
-    pub direct_pools: GramsByProcess,
-    pub indirect_pools: GramsByProcess,
-    pub direct_lefts: GramsByProcess,
-    pub indirect_lefts: GramsByProcess,
-    pub left: Grams,
-    pub total_raised: Grams,
-}
 
 // Balances are raised to zero before anything bought or taken is added.
 pub fn close(l: Ledger, outputs: KilosByProcess, kilos: &KilosByPair, count: usize) -> Closing

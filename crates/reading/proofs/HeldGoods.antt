@@ -20,7 +20,7 @@ use Rattle.ledger.specs.Ledger.{added}
 use Rattle.ledger.proofs.Bounds.{each-same}
 use Rattle.ledger.proofs.Places.{place-added}
 use Rattle.attribution.specs.Reckoning.{kilosOf, processCount, kilosBetween}
-use Rattle.works.specs.Works.{KILOS}
+use Rattle.sheet.specs.Most.{KILOS}
 
 pub record HeldGoods (above : List Record) (count : ℕ) (outputs taken kilos : List ℕ) : Type 0 where
   pub counted : count ≡ processCount above

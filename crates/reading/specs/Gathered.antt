@@ -15,7 +15,8 @@ use Rattle.checks.specs.Numbers.{refusalNumber}
 use Rattle.checks.specs.declared.refusals.Refusal.{Refusal}
 use Rattle.attribution.specs.Attribution.{balance, indirect, boughtDirect, boughtIndirect}
 use Rattle.attribution.specs.Reckoning.{processCount, output, kilosBetween, entered, uncredited}
-use Rattle.works.specs.Works.{MOST, worksAtStart}
+use Rattle.sheet.specs.Most.{MOST}
+use Rattle.works.specs.Works.{worksAtStart}
 use Rattle.works.specs.declared.Works.{Works}
 use Rattle.reading.specs.declared.Read.{Read}
 

@@ -18,7 +18,7 @@ use Rattle.checks.specs.declared.refusals.Refusal.{Refusal}
 use Rattle.sheet.proofs.First.{accepted-passes, numbered}
 use Rattle.goods.specs.ByProcess.{Column, figures}
 use Rattle.closing.specs.Closing.{Ready, Closed, anyLarge}
-use Rattle.closing.specs.declared.Closing.{Closing}
+use Rattle.reckoning.specs.declared.Closing.{Closing}
 use Rattle.attribution.specs.Verdict.{reckonerChecks}
 use Rattle.reading.specs.Gathered.{ReadOf}
 use Rattle.reckoner.specs.Reckoned.{FiguresOf, Reckoned, refusedBy}

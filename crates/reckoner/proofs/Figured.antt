@@ -12,7 +12,7 @@ use Rattle.goods.proofs.Sums.{sum-cong}
 use Rattle.goods.proofs.Same.{pool-cong, left-cong}
 use Rattle.ledger.specs.Raising.{raisedToZero}
 use Rattle.closing.specs.Closing.{Closed}
-use Rattle.closing.specs.declared.Closing.{Closing}
+use Rattle.reckoning.specs.declared.Closing.{Closing}
 use Rattle.attribution.specs.Attribution.{direct}
 use Rattle.attribution.specs.Reckoning.{processCount, output, kilosBetween, directPool, indirectPool, directLeft, indirectLeft, totalLeft}
 use Rattle.reading.specs.Gathered.{Gathered}

@@ -10,9 +10,9 @@ use Rattle.quantity.specs.Limits.{wholeGrams}
 use Rattle.goods.specs.ByProcess.{figures}
 use Rattle.checks.specs.declared.refusals.Refusal.the-variants.{Accepted}
 use Rattle.closing.specs.Closing.{anyLarge, Closed}
-use Rattle.closing.specs.declared.Closing.{Closing}
+use Rattle.reckoning.specs.declared.Closing.{Closing}
 use Rattle.works.specs.declared.Works.{Works}
-use Rattle.reckoner.specs.declared.Reckoning.{Reckoning}
+use Rattle.reckoning.specs.declared.Reckoning.{Reckoning}
 
 -- 15, over what the code holds: the figures of processes 1 .. count, and the totals
 abbrev pub largeRows : Closing → (count : ℕ) → Bool

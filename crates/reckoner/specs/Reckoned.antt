@@ -12,12 +12,12 @@ use Rattle.quantity.specs.Limits.{limits, wholeGrams}
 use Rattle.sheet.specs.Verdict.{accepted, firstOf, numberOf, lineOf}
 use Rattle.checks.specs.Numbers.{refusalNumber}
 use Rattle.checks.specs.declared.refusals.Refusal.{Refusal}
-use Rattle.closing.specs.declared.Closing.{Closing}
+use Rattle.reckoning.specs.declared.Closing.{Closing}
 use Rattle.attribution.specs.Attribution.{direct, indirect, raised}
 use Rattle.attribution.specs.Reckoning.{processCount, output, directPool, indirectPool, directLeft, indirectLeft, totalLeft, entered, totalRaised, uncredited}
 use Rattle.attribution.specs.Verdict.{reckonerChecks}
-use Rattle.works.specs.Works.{MOST}
-use Rattle.reckoner.specs.declared.Reckoning.{Reckoning}
+use Rattle.sheet.specs.Most.{MOST}
+use Rattle.reckoning.specs.declared.Reckoning.{Reckoning}
 
 -- the figures of an accepted sheet; in every array the places of no process have 0
 pub record FiguresOf (rs : List Record) (r : Reckoning) : Type 0 where

@@ -8,7 +8,6 @@ ghost use Rattle.reckoner.specs.Reckoned.{Reckoned, refusedBy};
 ghost use Rattle.reckoner.specs.Closed.{largeRows, largeTotals, large, ClosedAs};
 use checks::refusals::Refusal;
 use checks::refusals::refusal_number;
-use closing::Closing;
 use closing::close;
 use closing::too_large;
 use goods::GramsByProcess;
@@ -21,18 +20,9 @@ use quantity::SignedGrams;
 use quantity::limits::BYTES;
 use quantity::limits::WHOLE_GRAMS;
 use reading::read_lines;
+use reckoning::Closing;
+use reckoning::Reckoning;
 use works::Works;
-
-// The reckoning of a sheet: the refusal and its line, or the figures of each process by its number and the totals.
-pub struct Reckoning {
-    pub refusal: Refusal,
-    pub line: usize,
-    pub count: usize,
-    pub outputs: KilosByProcess,
-    pub figures: Closing,
-    pub entered: SignedGrams,
-    pub uncredited: Grams,
-}
 
 // Row 15: as whole-gram figures stay below 2^63, the least i64 is too large.
 const LEAST: i64 = -((WHOLE_GRAMS - 1) as i64) - 1;

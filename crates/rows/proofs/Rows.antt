@@ -13,7 +13,7 @@ use Rattle.report.specs.Spelling.{Figure, whole, minus, thousandths, threeDigit
 use Rattle.report.specs.Spelling.{spellLines, rowLine, totalLine, reportBytes}
 use Rattle.figures.specs.Figures.{FIELDS, three, spelt, tailed, line, held}
 use Rattle.figures.proofs.Widths.{length-line}
-use Rattle.reckoner.specs.declared.Reckoning.{Reckoning}
+use Rattle.reckoning.specs.declared.Reckoning.{Reckoning}
 use Rattle.rows.specs.Held.{rowHeld, rowsHeld, totalsHeld, reckoningHeld, fieldsOf, rowFields, totalFields, rowsBytes, bytesHeld}
 
 -- ---- fields as the code holds them

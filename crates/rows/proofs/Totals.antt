@@ -8,7 +8,7 @@ use Rattle.report.specs.Spelling.{signed, totalLine}
 use Rattle.figures.specs.Figures.{spelt, tailed, line, held}
 use Rattle.figures.specs.declared.Figure.{Figure}
 use Rattle.figures.specs.declared.Figure.the-variants.{Whole}
-use Rattle.reckoner.specs.declared.Reckoning.{Reckoning}
+use Rattle.reckoning.specs.declared.Reckoning.{Reckoning}
 use Rattle.rows.specs.Held.{totalFields}
 
 -- a comma and a field

@@ -9,8 +9,8 @@ use Rattle.report.specs.Report.{reportRow, reportOf}
 use Rattle.report.specs.Spelling.{rowLine, totalLine, spellLines, reportBytes}
 use Rattle.figures.specs.Figures.{held}
 use Rattle.figures.specs.declared.Figure.{Figure}
-use Rattle.works.specs.Works.{MOST}
-use Rattle.reckoner.specs.declared.Reckoning.{Reckoning}
+use Rattle.sheet.specs.Most.{MOST}
+use Rattle.reckoning.specs.declared.Reckoning.{Reckoning}
 use Rattle.rows.specs.declared.Row.{Row}
 
 -- what the writer asks of a reckoning

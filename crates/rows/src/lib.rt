@@ -9,7 +9,7 @@ ghost use Rattle.report.specs.Report.{specific};
 ghost use Rattle.report.specs.Spelling.{thousandths, signed};
 ghost use Rattle.figures.specs.Figures.{FIELDS, held, tailed, line};
 ghost use Rattle.goods.specs.ByProcess.{SIZE, figures};
-ghost use Rattle.works.specs.Works.{MOST};
+ghost use Rattle.sheet.specs.Most.{MOST};
 ghost use Rattle.rows.specs.Held.{CanBeWritten, rowSaid, fieldsOf, totalFields, rowsBytes, bytesHeld};
 use figures::FIELDS;
 use figures::Figure;
@@ -20,7 +20,7 @@ use goods::SIZE;
 use quantity::Grams;
 use quantity::Kilos;
 use quantity::SignedGrams;
-use reckoner::Reckoning;
+use reckoning::Reckoning;
 
 // Specific embedded emissions: pool/output in g/kg, three digits after the dot, cut down.
 fn specific_figure(pool: Grams, output: Kilos) -> Figure

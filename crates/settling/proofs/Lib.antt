@@ -1,4 +1,3 @@
--- Laws that the two proofs cite.
-mod Passing
+-- Laws that the proofs cite.
 mod Settling
 pub mod Takers

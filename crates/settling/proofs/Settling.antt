@@ -18,7 +18,7 @@ use Rattle.goods.specs.Settling.{pairs, CanPassOn, PassedOn, Settleable, poolHe
 use Rattle.goods.proofs.Sums.{sum-suc, sum-mono}
 use Rattle.goods.proofs.Portions.{portion-is}
 use Rattle.goods.proofs.Pools.{pool-is, pool-le}
-use Rattle.settling.proofs.Passing.{no-portion}
+use Rattle.passing.proofs.Passing.{no-portion}
 
 zeros : (n k : ℕ) → _≡_ {A = ℕ} (getD (replicate n 0) k 0) 0
 zeros zero k = refl

@@ -11,7 +11,7 @@ use borrow.Author.Tests.{lt-ltb, le-ltb, ltb-false, eqb-true, eqb-false}
 use lib.Dec.{eqb, ltb}
 use lib.ListN.{getD}
 use Rattle.goods.specs.Settling.{CanPassOn, PassedOn, anyTaker}
-use Rattle.settling.proofs.Passing.{passing-none, passing-all}
+use Rattle.passing.proofs.Passing.{passing-none, passing-all}
 
 -- neither of two holds
 none-first : (a b : Bool) → (a || b) ≡ false → a ≡ false

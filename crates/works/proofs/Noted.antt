@@ -18,7 +18,8 @@ use Rattle.entries.proofs.OfKind.{kind-at}
 use Rattle.works.specs.declared.Works.{Works}
 use Rattle.ledger.specs.Ledger.{booked}
 use Rattle.entries.specs.Entries.{entry}
-use Rattle.works.specs.Works.{worksOf, outputNoted, takenNoted, pairNoted, countAfter, outputsAfter, takenAfter, kilosAfter, worksAfter, KILOS}
+use Rattle.works.specs.Works.{worksOf, outputNoted, takenNoted, pairNoted, countAfter, outputsAfter, takenAfter, kilosAfter, worksAfter}
+use Rattle.sheet.specs.Most.{KILOS}
 
 module _ (w : Works) (kilos : List ℕ) (l : LineRead) where
   -- ---- what is left, by the kind

@@ -6,6 +6,7 @@ use lib.Dec.{eqb, ltb}
 use lib.ListN.{getD, replicate}
 use Rattle.quantity.specs.Limits.{Limits, limits}
 use Rattle.sheet.specs.Kinds.{Process, OwnGood, letter}
+use Rattle.sheet.specs.Most.{KILOS, MOST}
 use Rattle.lines.specs.declared.LineRead.{LineRead}
 use Rattle.goods.specs.Settling.{SIZE}
 use Rattle.ledger.specs.Columns.{AtMost}
@@ -88,13 +89,6 @@ abbrev pub worksAfter : Works → LineRead → Works
 worksAfter w l =
     worksOf (w .lines + 1) (countAfter (w .count) l) (outputsAfter (w .outputs .0) l) (takenAfter (w .taken .0) l)
     (booked (w .ledger) (entry (recordRead l)))
-
--- the most kilograms of one field, and of one field of every line
-abbrev pub KILOS : ℕ
-KILOS = Rattle.sheet.specs.Kinds.kilos .highest
-
-abbrev pub MOST : ℕ
-MOST = limits .lines * KILOS
 
 -- there is room for the kilograms of one line more
 pub record RoomForLine (w : Works) (kilos : List ℕ) : Type 0 where

@@ -21,7 +21,7 @@ use Rattle.report.specs.Spelling.{reportBytes}
 use Rattle.report.specs.Outcome.{sheetReport, spaceTooShort, allChecks, verdict, outcomeOf, Outcome, outcome, printed, carbon}
 use Rattle.report.proofs.Longest.{report-most, never-short}
 use Rattle.reckoner.specs.Reckoned.{FiguresOf, Reckoned}
-use Rattle.reckoner.specs.declared.Reckoning.{Reckoning}
+use Rattle.reckoning.specs.declared.Reckoning.{Reckoning}
 use Rattle.sheet.proofs.First.{first-rest, first-here}
 use Rattle.writer.specs.Given.{LONGEST}
 use Rattle.writer.specs.Within.{outcomeWithin}

@@ -15,7 +15,7 @@ use checks::refusals::refusal_number;
 use figures::put_byte;
 use figures::put_bytes;
 use quantity::limits::PROCESSES;
-use reckoner::Reckoning;
+use reckoning::Reckoning;
 use reckoner::reckon;
 use rows::put_report;
 

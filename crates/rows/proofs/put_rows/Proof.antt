@@ -10,7 +10,7 @@ use Rattle.figures.specs.Figures.{FIELDS, tailed}
 use Rattle.figures.specs.declared.Figure.{Figure}
 use Rattle.decimal.specs.Writing.{Put}
 use Rattle.decimal.proofs.Writing.{then, put-none, put-kept}
-use Rattle.reckoner.specs.declared.Reckoning.{Reckoning}
+use Rattle.reckoning.specs.declared.Reckoning.{Reckoning}
 use Rattle.rows.specs.Held.{fieldsOf, rowFields, rowsBytes}
 use Rattle.rows.proofs.Rows.{row-same, rows-none, rows-more, row-whole, rows-long, rows-within, report-long}
 use Rattle.rows.proofs.put_rows.Statement.{statement}

@@ -6,7 +6,7 @@ use lib.ListN.{length}
 use borrow.Author.Needs.{needs}
 use Rattle.decimal.proofs.Writing.{then}
 use Rattle.figures.specs.declared.Figure.{Figure}
-use Rattle.reckoner.specs.declared.Reckoning.{Reckoning}
+use Rattle.reckoning.specs.declared.Reckoning.{Reckoning}
 use Rattle.rows.proofs.Totals.{wide, leftFigure, enteredFigure, raisedFigure, uncreditedFigure, totals-long, totals-line}
 use Rattle.rows.proofs.put_totals.Statement.{statement}
 use Rattle.rows.proofs.put_totals.Tie as tie

@@ -1,14 +1,14 @@
--- `settling::pass_on` meets its contract. The loop's invariant: processes up to `to` have had their portions of both pools (`Passing`). The measure is
+-- `passing::pass_on` meets its contract. The loop's invariant: processes up to `to` have had their portions of both pools (`Passing`). The measure is
 -- how many processes are left. Assumes nothing.
 use Prim.Native.Nat.{_+_, _-_, _^_, _≤_, _<_}
 use mathlib.Core.Path.{_≡_, refl}
 use native.Mathlib.Omega.{arith}
 use lib.ListN.{getD}
 use Rattle.goods.specs.Settling.{pairs}
-use Rattle.settling.proofs.Passing.{Passing, passing-none, passing-skip, passing-next, next-rises}
-use Rattle.settling.proofs.Passing.{pool-fits, given-next-fits, taken-fits, given-fits, passing-all}
-use Rattle.settling.proofs.pass_on.Statement.{statement}
-use Rattle.settling.proofs.pass_on.Tie as tie
+use Rattle.passing.proofs.Passing.{Passing, passing-none, passing-skip, passing-next, next-rises}
+use Rattle.passing.proofs.Passing.{pool-fits, given-next-fits, taken-fits, given-fits, passing-all}
+use Rattle.passing.proofs.pass_on.Statement.{statement}
+use Rattle.passing.proofs.pass_on.Tie as tie
 
 abbrev Inv-loop : tie.InvT-loop
 Inv-loop output kilos from count direct₀ indirect₀ pools taken₀ given₀ to₀ direct indirect taken given to =

@@ -1,0 +1,32 @@
+// What the reckoner gives of a sheet: document 01, "Refusals" and the figures of "The report".
+use checks::refusals::Refusal;
+use goods::GramsByProcess;
+use goods::KilosByProcess;
+use quantity::Grams;
+use quantity::SignedGrams;
+
+// Grams of each process by its number, and the totals `left` and `raised` of the works.
+pub struct Closing {
+    // attribution, and the grams that raised the balance to zero
+    pub direct: GramsByProcess,
+    pub indirect: GramsByProcess,
+    pub raised: GramsByProcess,
+    // pools, and what is left of them
+    pub direct_pools: GramsByProcess,
+    pub indirect_pools: GramsByProcess,
+    pub direct_lefts: GramsByProcess,
+    pub indirect_lefts: GramsByProcess,
+    pub left: Grams,
+    pub total_raised: Grams,
+}
+
+// The reckoning of a sheet: the refusal and its line, or the figures of each process by its number and the totals.
+pub struct Reckoning {
+    pub refusal: Refusal,
+    pub line: usize,
+    pub count: usize,
+    pub outputs: KilosByProcess,
+    pub figures: Closing,
+    pub entered: SignedGrams,
+    pub uncredited: Grams,
+}
