@@ -1,10 +1,8 @@
 -- For the code only: the figures of all processes once every line is booked, over the arrays that the code holds. Reckoner's laws show that
 -- they are document 01's.
 use mathlib.Core.Path.{_≡_}
-use mathlib.Core.Bool.{Bool, false, _||_}
 use mathlib.Core.List.{List}
-use Prim.Native.Nat.{ℕ, zero, suc, _+_, _≤_, _<_}
-use lib.Dec.{leb}
+use Prim.Native.Nat.{ℕ, _+_, _≤_, _<_}
 use lib.IntN.{ℤ}
 use Rattle.quantity.specs.Limits.{wholeGrams}
 use Rattle.goods.specs.Sums.{sumTo}
@@ -62,8 +60,3 @@ pub record Closed (l : Ledger) (outputs kilos : List ℕ) (count : ℕ) (r : Clo
   pub left : r .left .0 ≡ sumTo count (leftHeld outputs kilos count (ownDirect l)) + sumTo count (leftHeld outputs kilos count (ownIndirect l))
   pub left-small : r .left .0 < wholeGrams
   pub total-raised : r .«total_raised» .0 ≡ sumTo count (raisedHeld l)
-
--- ---- 15: a figure of a process 1 .. count is 2^63 or more
-unfoldable pub anyLarge : (count : ℕ) → (figure : ℕ → ℕ) → Bool
-anyLarge zero figure = false
-anyLarge (suc n) figure = anyLarge n figure || leb wholeGrams (figure (suc n))

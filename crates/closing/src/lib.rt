@@ -1,8 +1,5 @@
 // The figures of all processes once every line is booked: document 01, "Attribution", "Goods and precursors" and "The report".
-ghost use mathlib.Core.Path.{_≡_};
-ghost use Prim.Native.Nat.{_<_};
-ghost use Rattle.goods.specs.ByProcess.{SIZE, figures};
-ghost use Rattle.closing.specs.Closing.{Ready, Closed, anyLarge};
+ghost use Rattle.closing.specs.Closing.{Ready, Closed};
 use goods::GramsByProcess;
 use goods::KilosByPair;
 use goods::KilosByProcess;
@@ -12,7 +9,6 @@ use ledger::add_all;
 use ledger::raise_all;
 use ledger::total;
 use quantity::Grams;
-use quantity::limits::WHOLE_GRAMS;
 use reckoning::Closing;
 use settling::settle;
 
@@ -56,19 +52,4 @@ pub fn close(l: Ledger, outputs: KilosByProcess, kilos: &KilosByPair, count: usi
         left,
         total_raised,
     }
-}
-
-// Refusal 15: whether a figure of a process 1 .. count is 2^63 or more.
-pub fn too_large(a: &[u64; SIZE], count: usize) -> bool
-    requires { ⌜ count < SIZE ⌝ }
-    ensures { λ r. ⌜ r ≡ anyLarge count (figures (now (a .entry))) ⌝ }
-{
-    let mut large = false;
-    let mut done: usize = 0;
-    while done < count {
-        let k = done + 1;
-        large = large | (a[k] >= WHOLE_GRAMS);
-        done = k;
-    }
-    large
 }

@@ -17,12 +17,14 @@ use Rattle.checks.specs.Numbers.{refusalNumber}
 use Rattle.checks.specs.declared.refusals.Refusal.{Refusal}
 use Rattle.sheet.proofs.First.{accepted-passes, numbered}
 use Rattle.goods.specs.ByProcess.{Column, figures}
-use Rattle.closing.specs.Closing.{Ready, Closed, anyLarge}
+use Rattle.closing.specs.Closing.{Ready, Closed}
 use Rattle.reckoning.specs.declared.Closing.{Closing}
 use Rattle.attribution.specs.Verdict.{reckonerChecks}
 use Rattle.reading.specs.Gathered.{ReadOf}
-use Rattle.reckoner.specs.Reckoned.{FiguresOf, Reckoned, refusedBy}
-use Rattle.reckoner.specs.Closed.{acceptedAs, largeTotals, large}
+use Rattle.reckoner.specs.Reckoned.{FiguresOf, Reckoned}
+use Rattle.reckoning.specs.Refused.{refusedBy}
+use Rattle.reckoner.specs.Closed.{acceptedAs}
+use Rattle.large_figures.specs.Large.{anyLarge, largeTotals, large}
 use Rattle.reading.specs.declared.Read.{Read}
 use Rattle.attribution.specs.Accepted.{Accepted}
 use Rattle.attribution.proofs.Valid.{sheet-accepted}

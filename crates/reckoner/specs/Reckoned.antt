@@ -2,21 +2,17 @@
 use mathlib.Core.Path.{_≡_}
 use mathlib.Core.List.{List}
 use Prim.Native.Nat.{ℕ, _≤_, _<_}
-use lib.IntN.{pos, natAbs}
-use lib.ListN.{replicate}
+use lib.IntN.{natAbs}
 use Rattle.lines.specs.Records.{Record, recordsOf}
-use Rattle.goods.specs.ByProcess.{SIZE, Column}
-use Rattle.goods.specs.declared.GramsByProcess.{GramsByProcess}
-use Rattle.goods.specs.declared.KilosByProcess.{KilosByProcess}
+use Rattle.goods.specs.ByProcess.{Column}
 use Rattle.quantity.specs.Limits.{limits, wholeGrams}
 use Rattle.sheet.specs.Verdict.{accepted, firstOf, numberOf, lineOf}
 use Rattle.checks.specs.Numbers.{refusalNumber}
-use Rattle.checks.specs.declared.refusals.Refusal.{Refusal}
-use Rattle.reckoning.specs.declared.Closing.{Closing}
 use Rattle.attribution.specs.Attribution.{direct, indirect, raised}
 use Rattle.attribution.specs.Reckoning.{processCount, output, directPool, indirectPool, directLeft, indirectLeft, totalLeft, entered, totalRaised, uncredited}
 use Rattle.attribution.specs.Verdict.{reckonerChecks}
 use Rattle.sheet.specs.Most.{MOST}
+use Rattle.reckoning.specs.Refused.{refusedBy}
 use Rattle.reckoning.specs.declared.Reckoning.{Reckoning}
 
 -- the figures of an accepted sheet; in every array the places of no process have 0
@@ -39,37 +35,6 @@ pub record FiguresOf (rs : List Record) (r : Reckoning) : Type 0 where
   pub uncredited-is : r .uncredited .0 ≡ uncredited rs
   -- its sign aside, below 2^63
   pub entered-small : natAbs (r .entered .0) < wholeGrams
-
--- a refused sheet has no figures
-abbrev noGrams : GramsByProcess
-noGrams = record { 0 = replicate SIZE 0 }
-
-abbrev noKilos : KilosByProcess
-noKilos = record { 0 = replicate SIZE 0 }
-
-abbrev pub nothing : Closing
-nothing = record {
-  direct = noGrams;
-  indirect = noGrams;
-  raised = noGrams;
-  «direct_pools» = noGrams;
-  «indirect_pools» = noGrams;
-  «direct_lefts» = noGrams;
-  «indirect_lefts» = noGrams;
-  left = record { 0 = 0 };
-  «total_raised» = record { 0 = 0 };
-}
-
-abbrev pub refusedBy : Refusal → (line : ℕ) → Reckoning
-refusedBy refusal line = record {
-  refusal = refusal;
-  line = line;
-  count = 0;
-  outputs = noKilos;
-  figures = nothing;
-  entered = record { 0 = pos 0 };
-  uncredited = record { 0 = 0 };
-}
 
 -- number and line, and the figures or none
 pub record Reckoned (sheet : List ℕ) (r : Reckoning) : Type 0 where

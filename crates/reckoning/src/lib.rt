@@ -1,7 +1,10 @@
 // What the reckoner gives of a sheet: document 01, "Refusals" and the figures of "The report".
+ghost use mathlib.Core.Path.{_≡_};
+ghost use Rattle.reckoning.specs.Refused.{refusedBy};
 use checks::refusals::Refusal;
 use goods::GramsByProcess;
 use goods::KilosByProcess;
+use goods::SIZE;
 use quantity::Grams;
 use quantity::SignedGrams;
 
@@ -29,4 +32,32 @@ pub struct Reckoning {
     pub figures: Closing,
     pub entered: SignedGrams,
     pub uncredited: Grams,
+}
+
+// A refused sheet has no figures.
+pub fn refused_by(refusal: Refusal, line: usize) -> Reckoning
+    ensures { λ r. ⌜ r ≡ refusedBy refusal line ⌝ }
+{
+    let none = GramsByProcess([0; SIZE]);
+    let outputs = KilosByProcess([0; SIZE]);
+    let figures = Closing {
+        direct: none,
+        indirect: none,
+        raised: none,
+        direct_pools: none,
+        indirect_pools: none,
+        direct_lefts: none,
+        indirect_lefts: none,
+        left: Grams(0),
+        total_raised: Grams(0),
+    };
+    Reckoning {
+        refusal: refusal,
+        line: line,
+        count: 0,
+        outputs: outputs,
+        figures: figures,
+        entered: SignedGrams(0),
+        uncredited: Grams(0),
+    }
 }

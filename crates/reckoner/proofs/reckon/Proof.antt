@@ -7,7 +7,7 @@ use lib.ListN.{length}
 use Rattle.decimal.proofs.Bools.{never}
 use Rattle.quantity.specs.Limits.{limits}
 use Rattle.checks.specs.Numbers.{refusalNumber}
-use Rattle.reckoner.specs.Closed.{large}
+use Rattle.large_figures.specs.Large.{large}
 use Rattle.reckoner.proofs.Answer.{refused-bytes, refused-empty, refused-line, can-close, accepted-answer, accepted-sum, not-large}
 use Rattle.reckoner.proofs.reckon.Statement.{statement}
 use Rattle.reckoner.proofs.reckon.Tie as tie

@@ -1,7 +1,7 @@
 -- `large_rows` meets its contract. Assumes nothing.
 use borrow.Author.Needs.{needs}
-use Rattle.reckoner.proofs.large_rows.Statement.{statement}
-use Rattle.reckoner.proofs.large_rows.Tie as tie
+use Rattle.large_figures.proofs.large_rows.Statement.{statement}
+use Rattle.large_figures.proofs.large_rows.Tie as tie
 
 too-large-requires : tie.Need-too-large-requires
 too-large-requires c κs = search needs

@@ -1,4 +1,4 @@
--- `closing::too_large` meets its contract. The loop's invariant: the answer for the processes done. Assumes nothing.
+-- `too_large` meets its contract. The loop's invariant: the answer for the processes done. Assumes nothing.
 use mathlib.Core.Path.{_≡_, refl}
 use mathlib.Core.Bool.{_||_}
 use Prim.Native.Nat.{ℕ, _+_, _-_, _≤_}
@@ -7,9 +7,9 @@ use native.Mathlib.Omega.{arith}
 use lib.Dec.{leb}
 use Rattle.quantity.specs.Limits.{wholeGrams}
 use Rattle.goods.specs.ByProcess.{figures}
-use Rattle.closing.specs.Closing.{anyLarge}
-use Rattle.closing.proofs.too_large.Statement.{statement}
-use Rattle.closing.proofs.too_large.Tie as tie
+use Rattle.large_figures.specs.Large.{anyLarge}
+use Rattle.large_figures.proofs.too_large.Statement.{statement}
+use Rattle.large_figures.proofs.too_large.Tie as tie
 
 -- one process more
 next : (n : ℕ) (f : ℕ → ℕ) → anyLarge (n + 1) f ≡ anyLarge n f || leb wholeGrams (f (n + 1))

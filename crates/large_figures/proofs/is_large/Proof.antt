@@ -1,7 +1,7 @@
 -- `is_large` meets its contract. Assumes nothing.
 use borrow.Author.Needs.{needs}
-use Rattle.reckoner.proofs.is_large.Statement.{statement}
-use Rattle.reckoner.proofs.is_large.Tie as tie
+use Rattle.large_figures.proofs.is_large.Statement.{statement}
+use Rattle.large_figures.proofs.is_large.Tie as tie
 
 large-rows-requires : tie.Need-large-rows-requires
 large-rows-requires c κs = search needs

@@ -1,0 +1,2 @@
+-- For the code only: Large.
+pub mod Large

@@ -1,0 +1,2 @@
+-- For the reader: Refused.
+pub mod Refused
