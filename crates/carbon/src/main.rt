@@ -1,11 +1,11 @@
 // Document 01: standard input to standard output, the report of a sheet or the number and line of its refusal.
 ghost use mathlib.Core.Path.{_≡_};
 ghost use Rattle.carbon.specs.End.{atEnd};
+use answers::LONGEST;
 use libc::STDERR_FILENO;
 use libc::STDIN_FILENO;
 use libc::STDOUT_FILENO;
 use quantity::limits::BYTES;
-use writer::LONGEST;
 
 // One byte more than a sheet may have, so that a longer one is seen.
 const MOST: usize = BYTES + 1;

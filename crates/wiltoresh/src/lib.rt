@@ -5,9 +5,9 @@ ghost use lib.ListN;
 ghost use Rattle.quantity.specs.Limits.{limits};
 ghost use Rattle.places.specs.LinePlace.{offendingLine};
 ghost use Rattle.report.specs.Outcome.{outcome};
-ghost use Rattle.writer.specs.Given.{LONGEST, gives};
+ghost use Rattle.answers.specs.Given.{LONGEST, gives};
+use answers::LONGEST;
 use places::line_place;
-use writer::LONGEST;
 use writer::report;
 
 // The whole job. The result is the refusal's number, 0 for an accepted sheet.

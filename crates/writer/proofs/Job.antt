@@ -1,15 +1,11 @@
 -- The outcome of the whole job from what the reckoner promises. Assumes nothing.
 use mathlib.Core.Path.{_≡_, refl, sym, ap, ap₂, _∙_}
 use mathlib.Core.List.{List, [], _∷_, _++_}
-use Prim.Native.Nat.{ℕ, zero, suc, _≤_, _<_}
+use Prim.Native.Nat.{ℕ, zero, suc, _≤_}
 use native.Mathlib.Omega.{arith}
 use native.Mathlib.Nat.{le-refl}
-use borrow.Author.Tests.{lt-ltb, le-ltb}
-use lib.ListN.{length, take, drop}
-use lib.Seq.{take-at}
+use lib.ListN.{length}
 use Rattle.quantity.specs.Limits.{limits}
-use Rattle.decimal.specs.Writing.{Put}
-use Rattle.decimal.proofs.Writing.{start-bytes, start-place}
 use Rattle.lines.specs.Records.{Record, recordsOf}
 use Rattle.sheet.specs.Verdict.{Check, check, Verdict, refused, firstOf}
 use Rattle.checks.specs.Numbers.{refusalNumber}
@@ -23,8 +19,8 @@ use Rattle.report.proofs.Longest.{report-most, never-short}
 use Rattle.reckoner.specs.Reckoned.{FiguresOf, Reckoned}
 use Rattle.reckoning.specs.declared.Reckoning.{Reckoning}
 use Rattle.sheet.proofs.First.{first-rest, first-here}
-use Rattle.writer.specs.Given.{LONGEST}
-use Rattle.writer.specs.Within.{outcomeWithin}
+use Rattle.answers.specs.Given.{LONGEST}
+use Rattle.answers.specs.Within.{outcomeWithin}
 use Rattle.rows.specs.Held.{CanBeWritten, rowHeld, rowsHeld, reckoningHeld, bytesHeld}
 
 -- ---- the figures of an accepted sheet
@@ -64,24 +60,6 @@ module _ (rs : List Record) (r : Reckoning) (f : FiguresOf rs r) where
   unfolding reckoningHeld attribution.reckoning
   reckoning-is =
       rw (rows-are (r .count) (le-refl (r .count)), f .counted, f .left-is, f .entered-is, f .raised-is, f .uncredited-is)
-
--- ---- row 16
-
-pub short-within : (report space : List ℕ) → length space < length report
-    → record { number = 16; line = 0; length = 0; space = space } ≡ outcomeWithin report space
-unfolding firstOf
-short-within report space h = rw (lt-ltb (length space) (length report) h)
-
-pub written-within : (report space : List ℕ) {after : List ℕ} {n : ℕ} → length report ≤ length space → Put space 0 report after n
-    → record { number = 0; line = 0; length = n; space = after } ≡ outcomeWithin report space
-unfolding firstOf
-written-within report space h w = rw (le-ltb (length space) (length report) h, start-place w, start-bytes w)
-
--- bytes put at the start of a space are its first, and so are copied from there
-pub copied : {l report bytes space after : List ℕ} {n : ℕ} → Put l 0 report bytes n → Put space 0 (take n bytes) after n → Put space 0 report after n
-copied {l} {report} {bytes} {n = n} w p =
-    let first : take n bytes ≡ report = ap (take n) (start-bytes w) ∙ take-at report (drop (length report) l) n (sym (start-place w)) in
-    rw first at p
 
 -- ---- number, line, length and every byte
 

@@ -1,4 +1,4 @@
--- `writer::row_fields` meets its contract. Assumes nothing.
+-- `rows::row_fields` meets its contract. Assumes nothing.
 use Rattle.report.specs.Spelling.{rowLine}
 use Rattle.rows.specs.Held.{fieldsOf}
 use borrow.Author.Needs.{needs}

@@ -1,4 +1,4 @@
--- `writer::signed_figure` meets its contract, below zero and above. Assumes nothing.
+-- `rows::signed_figure` meets its contract, below zero and above. Assumes nothing.
 use mathlib.Core.Path.{_≡_}
 use native.Mathlib.Omega.{arith}
 use lib.IntN.{pos, _-ℤ_}

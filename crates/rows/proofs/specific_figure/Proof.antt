@@ -1,4 +1,4 @@
--- `writer::specific_figure` meets its contract. Assumes nothing.
+-- `rows::specific_figure` meets its contract. Assumes nothing.
 use borrow.Author.Needs.{needs}
 use native.Mathlib.Omega.{arith}
 use native.Mathlib.Nat.{mod-lt}

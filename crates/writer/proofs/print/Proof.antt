@@ -7,7 +7,7 @@ use lib.ListN.{length}
 use mathlib.Core.List.{List}
 use Rattle.decimal.specs.Writing.{Put}
 use Rattle.decimal.proofs.Writing.{length-written}
-use Rattle.writer.specs.Given.{LONGEST}
+use Rattle.answers.specs.Given.{LONGEST}
 use Rattle.writer.proofs.Job.{can-be-written, report-short, printed-refusal, printed-report}
 use Rattle.writer.proofs.print.Statement.{statement}
 use Rattle.writer.proofs.print.Tie as tie

@@ -6,8 +6,9 @@ use native.Mathlib.Omega.{arith}
 use lib.ListN.{length}
 use Rattle.quantity.specs.Limits.{limits}
 use Rattle.report.specs.Outcome.{Outcome, outcome}
-use Rattle.writer.specs.Given.{LONGEST}
-use Rattle.writer.proofs.Job.{can-be-written, report-short, refused-outcome, written-within, accepted-within, long-enough}
+use Rattle.answers.specs.Given.{LONGEST}
+use Rattle.answers.proofs.Within.{written-within}
+use Rattle.writer.proofs.Job.{can-be-written, report-short, refused-outcome, accepted-within, long-enough}
 use borrow.Author.Needs.{needs}
 use Rattle.writer.proofs.report.Statement.{statement}
 use Rattle.writer.proofs.report.Tie as tie

@@ -1,11 +1,11 @@
--- `writer::put_within` meets its contract: nothing is written into a space that is too short, else the report. Assumes nothing.
+-- `answers::put_within` meets its contract: nothing is written into a space that is too short, else the report. Assumes nothing.
 use native.Mathlib.Omega.{arith}
 use Rattle.decimal.proofs.Writing.{start-place}
 use Rattle.rows.specs.Held.{bytesHeld}
-use Rattle.writer.proofs.Job.{short-within, written-within, copied}
+use Rattle.answers.proofs.Within.{short-within, written-within, copied}
 use borrow.Author.Needs.{needs}
-use Rattle.writer.proofs.put_within.Statement.{statement}
-use Rattle.writer.proofs.put_within.Tie as tie
+use Rattle.answers.proofs.put_within.Statement.{statement}
+use Rattle.answers.proofs.put_within.Tie as tie
 
 slice-aggregate-put-report : tie.Need-slice-aggregate-put-report
 slice-aggregate-put-report c = search needs

@@ -1,4 +1,4 @@
--- `writer::put_refusal` meets its contract. Assumes nothing.
+-- `answers::put_refusal` meets its contract. Assumes nothing.
 use borrow.Author.Needs.{needs}
 use mathlib.Core.List.{[], _∷_, _++_, append-assoc}
 use Prim.Native.Nat.{_≤_}
@@ -7,8 +7,8 @@ use lib.ListN.{length, length-append}
 use Rattle.decimal.specs.Spelling.{spelling}
 use Rattle.decimal.proofs.Widths.{twenty}
 use Rattle.decimal.proofs.Writing.{then}
-use Rattle.writer.proofs.put_refusal.Statement.{statement}
-use Rattle.writer.proofs.put_refusal.Tie as tie
+use Rattle.answers.proofs.put_refusal.Statement.{statement}
+use Rattle.answers.proofs.put_refusal.Tie as tie
 
 number-short : (s : tie.Start) → length (spelling (s .args .number)) ≤ 20
 number-short s = twenty (s .args .number) (s .fits .number .fits)

@@ -3,7 +3,7 @@ use mathlib.Core.List.{List}
 use Prim.Native.Nat.{ℕ}
 use Rattle.quantity.specs.Limits.{limits}
 use Rattle.report.specs.Outcome.{Outcome, longest}
-use Rattle.writer.specs.declared.Answer.{Answer}
+use Rattle.answers.specs.declared.Answer.{Answer}
 
 abbrev pub gives : Answer → (after : List ℕ) → Outcome
 gives a after = record { number = a .number; line = a .line; length = a .length; space = after }

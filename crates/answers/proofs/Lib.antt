@@ -1,0 +1,2 @@
+-- Laws of row 16.
+pub mod Within
