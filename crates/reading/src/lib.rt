@@ -1,81 +1,19 @@
 // A sheet read from the top, each line judged and noted: one pass over the bytes.
-ghost use mathlib.Core.Path.{_≡_};
-ghost use Rattle.ledger.specs.Ledger.{nothingMoved};
-ghost use Rattle.works.specs.Works.{worksAtStart};
-ghost use Rattle.reading.specs.Gathered.{ReadOf, NoKilos, refusedAt};
+ghost use Rattle.gathering.specs.Gathered.{ReadOf, NoKilos};
 use checks::refusals::Refusal;
 use checks::refusals::refusal_number;
 use entries::weigh;
-use goods::GramsByProcess;
+use gathering::Read;
+use gathering::nothing_read;
+use gathering::refused_at;
 use goods::KilosByPair;
-use goods::KilosByProcess;
-use goods::SIZE;
-use goods::SignedGramsByProcess;
-use ledger::Ledger;
-use ledger::Totals;
 use ledger::add;
 use ledger::charge;
 use ledger::enter;
 use noting::note_own_good;
 use noting::note_process;
-use quantity::Grams;
-use quantity::SignedGrams;
 use records::read_line;
-use works::Works;
 use works::judging::line_refusal;
-
-// The first refusal by rows 2 to 13 and its line, 0 where there is none, and what the lines say.
-pub struct Read {
-    pub refusal: Refusal,
-    pub line: usize,
-    pub works: Works,
-}
-
-// Nothing entered the works, and nothing is uncredited.
-fn nothing_moved() -> Totals
-    ensures { λ r. ⌜ r ≡ nothingMoved ⌝ }
-{
-    Totals {
-        entered: SignedGrams(0),
-        uncredited: Grams(0),
-    }
-}
-
-// Above the first line: nothing is said.
-fn nothing_read() -> Works
-    ensures { λ r. ⌜ r ≡ worksAtStart ⌝ }
-{
-    let totals = nothing_moved();
-    let balances = SignedGramsByProcess([0; SIZE]);
-    let no_grams = GramsByProcess([0; SIZE]);
-    let no_kilos = KilosByProcess([0; SIZE]);
-    let ledger = Ledger {
-        balances,
-        indirect: no_grams,
-        bought_direct: no_grams,
-        bought_indirect: no_grams,
-        totals,
-    };
-    Works {
-        lines: 0,
-        count: 0,
-        outputs: no_kilos,
-        taken: no_kilos,
-        ledger,
-    }
-}
-
-// A refused sheet: no line counts.
-fn refused_at(refusal: Refusal, line: usize) -> Read
-    ensures { λ r. ⌜ r ≡ refusedAt refusal line ⌝ }
-{
-    let works = nothing_read();
-    Read {
-        refusal,
-        line,
-        works,
-    }
-}
 
 // All lines of a sheet; `kilos` gets the kilograms of each pair of processes.
 pub fn read_lines(s: &[u8], kilos: &mut KilosByPair) -> Read

@@ -20,12 +20,12 @@ use Rattle.goods.specs.ByProcess.{Column, figures}
 use Rattle.closing.specs.Closing.{Ready, Closed}
 use Rattle.reckoning.specs.declared.Closing.{Closing}
 use Rattle.attribution.specs.Verdict.{reckonerChecks}
-use Rattle.reading.specs.Gathered.{ReadOf}
+use Rattle.gathering.specs.Gathered.{ReadOf}
 use Rattle.reckoner.specs.Reckoned.{FiguresOf, Reckoned}
 use Rattle.reckoning.specs.Refused.{refusedBy}
 use Rattle.reckoner.specs.Closed.{acceptedAs}
 use Rattle.large_figures.specs.Large.{anyLarge, largeTotals, large}
-use Rattle.reading.specs.declared.Read.{Read}
+use Rattle.gathering.specs.declared.Read.{Read}
 use Rattle.attribution.specs.Accepted.{Accepted}
 use Rattle.attribution.proofs.Valid.{sheet-accepted}
 use Rattle.attribution.proofs.RowFifteen.{SumsBelow, RowBelow, row-below, left-below-limit, sheet-sums, fifteen-never-given}

@@ -15,7 +15,7 @@ use Rattle.closing.specs.Closing.{Closed}
 use Rattle.reckoning.specs.declared.Closing.{Closing}
 use Rattle.attribution.specs.Attribution.{direct}
 use Rattle.attribution.specs.Reckoning.{processCount, output, kilosBetween, directPool, indirectPool, directLeft, indirectLeft, totalLeft}
-use Rattle.reading.specs.Gathered.{Gathered}
+use Rattle.gathering.specs.Gathered.{Gathered}
 use Rattle.reckoner.specs.Reckoned.{FiguresOf}
 use Rattle.reckoner.specs.Closed.{acceptedAs}
 use Rattle.works.specs.declared.Works.{Works}

@@ -13,7 +13,7 @@ use Rattle.ledger.specs.Raising.{raisedToZero, gramsAdded}
 use Rattle.closing.specs.Closing.{Ready, ownDirect, ownIndirect, raisedHeld}
 use Rattle.attribution.specs.Attribution.{direct, indirect, raised, boughtDirect, boughtIndirect}
 use Rattle.attribution.specs.Reckoning.{processCount, kilosBetween, totalRaised}
-use Rattle.reading.specs.Gathered.{Gathered}
+use Rattle.gathering.specs.Gathered.{Gathered}
 use Rattle.works.specs.declared.Works.{Works}
 use Rattle.attribution.proofs.Entries.{forward}
 use Rattle.attribution.proofs.Outside.{no-power}

@@ -37,8 +37,8 @@ use Rattle.attribution.specs.Reckoning.{kilosOf, kilosBetween}
 use Rattle.works.specs.declared.Works.{Works}
 use Rattle.works.specs.Works.{aboveOf, worksAfter, kilosAfter, RoomForLine}
 use Rattle.works.proofs.Noted.{after-process, after-good, after-other}
-use Rattle.reading.proofs.HeldLedger.{HeldLedger, held-booked}
-use Rattle.reading.proofs.HeldGoods.{HeldGoods, held-process, held-good, held-other}
+use Rattle.gathering.proofs.HeldLedger.{HeldLedger, held-booked}
+use Rattle.gathering.proofs.HeldGoods.{HeldGoods, held-process, held-good, held-other}
 
 -- a pair has kilograms exactly where a G line above has it
 abbrev pub Once : List Record → Type 0

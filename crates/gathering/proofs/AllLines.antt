@@ -24,10 +24,10 @@ use Rattle.judge.proofs.Line.{AboveHeld, given, line-accepted, line-refused}
 use Rattle.entries.specs.Read.{LineKeeps}
 use Rattle.works.specs.Works.{worksAtStart, worksAfter, kilosAfter, aboveOf}
 use Rattle.works.specs.declared.Works.{Works}
-use Rattle.reading.specs.Gathered.{NoKilos}
-use Rattle.reading.proofs.HeldLedger.{held-start}
-use Rattle.reading.proofs.HeldGoods.{goods-start}
-use Rattle.reading.proofs.Standing.{Standing, Says, small-limits, standing-start, standing-next, above-held, line-keeps}
+use Rattle.gathering.specs.Gathered.{NoKilos}
+use Rattle.gathering.proofs.HeldLedger.{held-start}
+use Rattle.gathering.proofs.HeldGoods.{goods-start}
+use Rattle.gathering.proofs.Standing.{Standing, Says, small-limits, standing-start, standing-next, above-held, line-keeps}
 
 -- of all lines those in `left` are not read yet
 pub record Reading (all left : List Line) (w : Works) (kilos : List ℕ) : Type 0 where

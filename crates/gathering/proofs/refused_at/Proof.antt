@@ -1,7 +1,7 @@
 -- `refused_at` meets its contract. Assumes nothing.
 use borrow.Author.Needs.{needs}
-use Rattle.reading.proofs.refused_at.Statement.{statement}
-use Rattle.reading.proofs.refused_at.Tie as tie
+use Rattle.gathering.proofs.refused_at.Statement.{statement}
+use Rattle.gathering.proofs.refused_at.Tie as tie
 
 returns : tie.Need-returns
 returns c = rw (c .nothing-read .ensures)

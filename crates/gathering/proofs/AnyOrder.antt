@@ -10,8 +10,8 @@ use Rattle.ledger.specs.declared.Ledger.{Ledger}
 use Rattle.attribution.specs.Reckoning.{processCount, kilosBetween}
 use Rattle.attribution.proofs.Differences.{diff}
 use Rattle.attribution.proofs.EveryKind.{plus, minus}
-use Rattle.reading.proofs.HeldLedger.{HeldLedger}
-use Rattle.reading.proofs.HeldGoods.{HeldGoods}
+use Rattle.gathering.proofs.HeldLedger.{HeldLedger}
+use Rattle.gathering.proofs.HeldGoods.{HeldGoods}
 
 -- every sum over the one list is the sum over the other
 abbrev pub SameSums : List Record → List Record → Type 0

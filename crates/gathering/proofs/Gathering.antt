@@ -17,13 +17,13 @@ use Rattle.ledger.proofs.Bounds.{within-more}
 use Rattle.sheet.specs.Refusals.{sumOf, anyOf, process, outputIn}
 use Rattle.attribution.specs.Attribution.{indirect}
 use Rattle.attribution.specs.Reckoning.{output}
-use Rattle.reading.specs.Gathered.{Gathered}
+use Rattle.gathering.specs.Gathered.{Gathered}
 use Rattle.works.specs.declared.Works.{Works}
 use Rattle.attribution.proofs.Entries.{balance-is, entered-is, figures}
-use Rattle.reading.proofs.HeldLedger.{HeldLedger}
-use Rattle.reading.proofs.HeldGoods.{HeldGoods}
-use Rattle.reading.proofs.AnyOrder.{SameSums, same-length, ledger-same, goods-same}
-use Rattle.reading.proofs.AllLines.{Reading}
+use Rattle.gathering.proofs.HeldLedger.{HeldLedger}
+use Rattle.gathering.proofs.HeldGoods.{HeldGoods}
+use Rattle.gathering.proofs.AnyOrder.{SameSums, same-length, ledger-same, goods-same}
+use Rattle.gathering.proofs.AllLines.{Reading}
 
 module _ (sheet : List ℕ) (w : Works) (kilos : List ℕ) (rd : Reading (linesOf sheet) [] w kilos) where
   abbrev rs : List Record

@@ -2,8 +2,8 @@
 use mathlib.Core.Path.{refl}
 use borrow.Author.Needs.{needs}
 use Rattle.ledger.specs.Ledger.{start}
-use Rattle.reading.proofs.nothing_read.Statement.{statement}
-use Rattle.reading.proofs.nothing_read.Tie as tie
+use Rattle.gathering.proofs.nothing_read.Statement.{statement}
+use Rattle.gathering.proofs.nothing_read.Tie as tie
 
 nothing-moved-requires : tie.Need-nothing-moved-requires
 nothing-moved-requires c κs = search needs

@@ -18,7 +18,7 @@ use Rattle.attribution.specs.Reckoning.{processCount, output, kilosBetween, ent
 use Rattle.sheet.specs.Most.{MOST}
 use Rattle.works.specs.Works.{worksAtStart}
 use Rattle.works.specs.declared.Works.{Works}
-use Rattle.reading.specs.declared.Read.{Read}
+use Rattle.gathering.specs.declared.Read.{Read}
 
 pub record Gathered (rs : List Record) (w : Works) (kilos : List ℕ) : Type 0 where
   pub count : w .count ≡ processCount rs
