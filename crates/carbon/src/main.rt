@@ -1,7 +1,6 @@
 // Document 01: standard input to standard output, the report of a sheet or the number and line of its refusal.
-ghost use mathlib.Core.Path.{_≡_};
-ghost use Rattle.carbon.specs.End.{atEnd};
 use answers::LONGEST;
+use input::at_end;
 use libc::STDERR_FILENO;
 use libc::STDIN_FILENO;
 use libc::STDOUT_FILENO;
@@ -9,13 +8,6 @@ use quantity::limits::BYTES;
 
 // One byte more than a sheet may have, so that a longer one is seen.
 const MOST: usize = BYTES + 1;
-
-// Whether the sheet was read to its end: `got` bytes, and then one more read, which answered `after`.
-fn at_end(got: usize, after: isize) -> bool
-    ensures { λ r. ⌜ r ≡ atEnd got after ⌝ }
-{
-    (BYTES < got) | (after == 0)
-}
 
 // No contract can say what a program reads and writes: callers/run runs it at its limits and with input that cannot be read.
 fn main() {

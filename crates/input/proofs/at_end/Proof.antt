@@ -1,7 +1,7 @@
--- `carbon::at_end` is the definition `atEnd`.
+-- `input::at_end` is the definition `atEnd`.
 use mathlib.Core.Path.{refl}
-use Rattle.carbon.proofs.at_end.Statement.{statement}
-use Rattle.carbon.proofs.at_end.Tie as tie
+use Rattle.input.proofs.at_end.Statement.{statement}
+use Rattle.input.proofs.at_end.Tie as tie
 
 returns : tie.Need-returns
 returns c = refl
