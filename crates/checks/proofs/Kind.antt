@@ -8,7 +8,7 @@ use lib.ListN.{length}
 use Rattle.quantity.specs.Limits.{Limits}
 use Rattle.sheet.specs.Kinds.{Kind, Unknown, letter}
 use Rattle.checks.specs.Steps.{orElse, countNumber, namedNumber, wordsNumber}
-use Rattle.checks.specs.declared.order.Above.{Above}
+use Rattle.checks.specs.declared.above.Above.{Above}
 use Rattle.checks.proofs.Chain.{Fields, else-assoc}
 use Rattle.checks.specs.Judged.{wordRules, fieldsNumber, orderNumber, kindNumber}
 

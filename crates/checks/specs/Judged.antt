@@ -10,7 +10,7 @@ use Rattle.lines.specs.Words.{DASH}
 use Rattle.quantity.specs.Limits.{Limits}
 use Rattle.sheet.specs.Kinds.{Kind, Process, SourceStream, OwnGood, Unknown, letter, Rule, _to_, methodRules, rules, namedFields, endsOf}
 use Rattle.checks.specs.Steps.{orElse, wordsNumber}
-use Rattle.checks.specs.declared.order.Above.{Above}
+use Rattle.checks.specs.declared.above.Above.{Above}
 
 -- ---- 4 to 7
 

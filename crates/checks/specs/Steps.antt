@@ -6,7 +6,7 @@ use lib.Dec.{eqb, ltb, leb}
 use lib.ListN.{getD}
 use Rattle.lines.specs.Words.{DASH, OTHER}
 use Rattle.sheet.specs.Kinds.{Rule}
-use Rattle.checks.specs.declared.order.Above.{Above}
+use Rattle.checks.specs.declared.above.Above.{Above}
 
 -- the first of two numbers that is not 0
 abbrev pub orElse : (first next : ℕ) → ℕ

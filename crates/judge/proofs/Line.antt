@@ -21,7 +21,7 @@ use Rattle.sheet.specs.Verdict.{Verdict, Check, check, accepted, refused, first
 use Rattle.sheet.proofs.Table.{kind-is, rules-fit, FitsWords}
 use Rattle.sheet.proofs.Held.{Held, GoodHeld}
 use Rattle.checks.specs.Steps.{orElse, wordsNumber}
-use Rattle.checks.specs.declared.order.Above.{Above}
+use Rattle.checks.specs.declared.above.Above.{Above}
 use Rattle.checks.proofs.Chain.{else-first}
 use Rattle.checks.specs.Judged.{notNext, missing, noStandard, second, exceeded, fieldsNumber, orderNumber, kindNumber}
 use Rattle.judge.specs.Line.{lineNumber}

@@ -8,7 +8,7 @@ use Rattle.quantity.specs.Limits.{Limits}
 use Rattle.sheet.specs.Kinds.{Rule, kindOf}
 use Rattle.sheet.specs.Refusals.{tooManyLines}
 use Rattle.checks.specs.Steps.{wordsNumber}
-use Rattle.checks.specs.declared.order.Above.{Above}
+use Rattle.checks.specs.declared.above.Above.{Above}
 use Rattle.checks.specs.Judged.{kindNumber}
 
 -- 3 to 7 of a line under any table of kinds: whether it has its LF, whether no kind has its letter, and the rules of its fields

@@ -4,16 +4,16 @@ ghost use Rattle.quantity.specs.Limits.{limits};
 ghost use Rattle.sheet.specs.Kinds.{kindOf};
 ghost use Rattle.checks.specs.Numbers.{refusalNumber};
 ghost use Rattle.checks.specs.Judged.{kindNumber};
-use checks::order::Above;
+use checks::above::Above;
 use checks::refusals::Refusal;
 use kinds::bought_precursor;
-use kinds::electricity;
-use kinds::measurable_heat;
 use kinds::own_good;
 use kinds::process;
-use kinds::waste_gas;
 use lines::WORDS;
 use source_streams::source_stream;
+use transfers::electricity;
+use transfers::measurable_heat;
+use transfers::waste_gas;
 
 // Rows 4 to 13 of a line of this letter, of so many fields after its first and of these words.
 pub fn line_refusal(above: Above, letter: u8, count: usize, words: &[u64; WORDS]) -> Refusal

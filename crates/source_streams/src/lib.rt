@@ -5,21 +5,16 @@ ghost use Rattle.sheet.specs.Kinds.{SourceStream, combustion, processEmission, 
 ghost use Rattle.checks.specs.Numbers.{refusalNumber};
 ghost use Rattle.checks.specs.Steps.{orElse, wordsNumber};
 ghost use Rattle.checks.specs.Judged.{methodNumber, kindNumber};
-use checks::order::Above;
-use checks::order::known;
-use checks::order::standard;
+use checks::above::Above;
+use checks::ranges::KILOS;
+use checks::ranges::LAST;
 use checks::refusals::Refusal;
 use checks::shape::counted;
 use checks::shape::field;
 use checks::shape::field_or_dash;
 use lines::WORDS;
-use quantity::limits::PROCESSES;
-
-// The highest number of a process.
-pub const LAST: u64 = PROCESSES as u64;
-
-// The highest kilograms.
-pub const KILOS: u64 = 10000000000;
+use order::known;
+use order::standard;
 
 // The highest code of a fuel.
 const FUELS: u64 = 16;

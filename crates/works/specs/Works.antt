@@ -12,7 +12,7 @@ use Rattle.goods.specs.Settling.{SIZE}
 use Rattle.ledger.specs.Columns.{AtMost}
 use Rattle.ledger.specs.Ledger.{added, booked, start}
 use Rattle.ledger.specs.declared.Ledger.{Ledger}
-use Rattle.checks.specs.declared.order.Above.{Above}
+use Rattle.checks.specs.declared.above.Above.{Above}
 use Rattle.judge.specs.Line.{lineNumber}
 use Rattle.entries.specs.Entries.{entry}
 use Rattle.entries.specs.Read.{recordRead}

@@ -3,7 +3,7 @@ ghost use mathlib.Core.Path.{_≡_};
 ghost use Rattle.quantity.specs.Limits.{limits};
 ghost use Rattle.checks.specs.Numbers.{refusalNumber};
 ghost use Rattle.works.specs.Works.{ofProcess, ofPair, aboveAt, stateNumber};
-use checks::order::Above;
+use checks::above::Above;
 use checks::refusals::Refusal;
 use goods::KilosByPair;
 use goods::SIZE;

@@ -3,9 +3,9 @@ use Prim.Native.Nat.{suc}
 use native.Mathlib.Omega.{arith}
 use borrow.Author.Needs.{needs}
 use borrow.Author.Tests.{eq-eqb, ne-eqb}
 use Rattle.checks.proofs.Chain.{kept, judged}
-use Rattle.checks.proofs.order.next.Statement.{statement}
-use Rattle.checks.proofs.order.next.Tie as tie
+use Rattle.order.proofs.next.Statement.{statement}
+use Rattle.order.proofs.next.Tie as tie
 
 returns : tie.Need-returns
 returns c = kept _ _ _ (c .before .refusal-number .ensures) (c .if1 .taken)

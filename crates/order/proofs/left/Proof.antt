@@ -3,9 +3,9 @@ use Prim.Native.Nat.{_+_}
 use native.Mathlib.Omega.{arith}
 use borrow.Author.Needs.{needs}
 use borrow.Author.Tests.{eq-eqb, ne-eqb, lt-ltb, le-ltb}
 use Rattle.checks.proofs.Chain.{kept, judged}
-use Rattle.checks.proofs.order.left.Statement.{statement}
-use Rattle.checks.proofs.order.left.Tie as tie
+use Rattle.order.proofs.left.Statement.{statement}
+use Rattle.order.proofs.left.Tie as tie
 
 returns : tie.Need-returns
 returns c = kept _ _ _ (c .before .refusal-number .ensures) (c .if1 .taken)

@@ -1,8 +1,8 @@
 -- `standard` meets its contract. Assumes nothing.
 use borrow.Author.Needs.{needs}
 use Rattle.checks.proofs.Chain.{kept, judged}
-use Rattle.checks.proofs.order.standard.Statement.{statement}
-use Rattle.checks.proofs.order.standard.Tie as tie
+use Rattle.order.proofs.standard.Statement.{statement}
+use Rattle.order.proofs.standard.Tie as tie
 
 refusal-number-requires : tie.Need-refusal-number-requires
 refusal-number-requires c κs = search needs

@@ -1,9 +1,9 @@
 -- `known` meets its contract. Assumes nothing.
 use borrow.Author.Needs.{needs}
 use borrow.Author.Tests.{lt-ltb, le-ltb}
 use Rattle.checks.proofs.Chain.{kept, judged}
-use Rattle.checks.proofs.order.known.Statement.{statement}
-use Rattle.checks.proofs.order.known.Tie as tie
+use Rattle.order.proofs.known.Statement.{statement}
+use Rattle.order.proofs.known.Tie as tie
 
 refusal-number-requires : tie.Need-refusal-number-requires
 refusal-number-requires c κs = search needs

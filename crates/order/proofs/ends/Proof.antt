@@ -1,8 +1,8 @@
 -- `ends` meets its contract. Assumes nothing.
 use borrow.Author.Needs.{needs}
 use Rattle.checks.proofs.Chain.{kept, judged}
-use Rattle.checks.proofs.order.ends.Statement.{statement}
-use Rattle.checks.proofs.order.ends.Tie as tie
+use Rattle.order.proofs.ends.Statement.{statement}
+use Rattle.order.proofs.ends.Tie as tie
 
 returns : tie.Need-returns
 returns c = kept _ _ _ (c .before .refusal-number .ensures) (c .if1 .taken)

@@ -1,23 +1,13 @@
 // Document 01, "Sheets sent back", rows 8 to 13: the line under the lines above it, step by step. A step after a refusal keeps that
 // refusal.
 ghost use mathlib.Core.Path.{_≡_};
 ghost use Rattle.checks.specs.Numbers.{refusalNumber};
 ghost use Rattle.checks.specs.Steps.{orElse, nextNumber, namedNumber, endsNumber, standardNumber, goodNumber};
-use super::refusals::Refusal;
-use super::refusals::refusal_number;
+use checks::above::Above;
+use checks::refusals::Refusal;
+use checks::refusals::refusal_number;
 use lines::DASH;
 use quantity::Kilos;
-
-// What the lines above a line say: how many they are, and how many of them are P lines. Of an own good: the output of its process
-// `from`, the kilograms that G lines above take of it, and those that a G line above took for the same two processes, 0 where there
-// is none.
-pub struct Above {
-    pub lines: usize,
-    pub processes: usize,
-    pub output: Kilos,
-    pub taken: Kilos,
-    pub pair: Kilos,
-}
 
 // Row 8: a P line has the next number, and only P lines stand above it.
 pub fn next(before: Refusal, n: u64, above: Above) -> Refusal

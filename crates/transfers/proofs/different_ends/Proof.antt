@@ -1,7 +1,7 @@
 -- `different_ends` meets its contract. Assumes nothing.
 use borrow.Author.Needs.{needs}
-use Rattle.kinds.proofs.different_ends.Statement.{statement}
-use Rattle.kinds.proofs.different_ends.Tie as tie
+use Rattle.transfers.proofs.different_ends.Statement.{statement}
+use Rattle.transfers.proofs.different_ends.Tie as tie
 
 returns : tie.Need-returns
 returns c = c .ends .ensures

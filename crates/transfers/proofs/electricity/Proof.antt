@@ -6,8 +6,8 @@ use Rattle.sheet.specs.Kinds.{Electricity, rules}
 use Rattle.checks.specs.Judged.{orderNumber}
 use Rattle.checks.proofs.Chain.{none, then}
 use Rattle.checks.proofs.Kind.{kind-number}
-use Rattle.kinds.proofs.electricity.Statement.{statement}
-use Rattle.kinds.proofs.electricity.Tie as tie
+use Rattle.transfers.proofs.electricity.Statement.{statement}
+use Rattle.transfers.proofs.electricity.Tie as tie
 
 returns : tie.Need-returns
 unfolding rules orderNumber
