@@ -11,9 +11,9 @@ pub fn given_a(method: u64, code: u64, word: u64) -> u64
         return word;
     }
     if method == 1 {
-        return grams::standard::standard_net_calorific_value(code);
+        return standard::standard_net_calorific_value(code);
     }
-    grams::standard::standard_carbonate(code)
+    standard::standard_carbonate(code)
 }
 
 // b: the emission factor of a fuel.
@@ -21,7 +21,7 @@ pub fn given_b(code: u64, word: u64) -> u64
     ensures { λ r. ⌜ r ≡ orStandardWord word (standardB code) ⌝ }
 {
     if word == lines::DASH {
-        return grams::standard::standard_emission_factor(code);
+        return standard::standard_emission_factor(code);
     }
     word
 }

@@ -20,7 +20,7 @@ fn weigh_stream(l: LineRead) -> Entry
     let code = l.words[2];
     let a = given::given_a(method, code, l.words[4]);
     let b = given::given_b(code, l.words[5]);
-    let grams = grams::streams::stream(method, Kilos(l.words[3]), a, b, l.words[6], l.words[7]);
+    let grams = streams::stream(method, Kilos(l.words[3]), a, b, l.words[6], l.words[7]);
     moves::stream_entry(l.words[0] as usize, grams)
 }
 

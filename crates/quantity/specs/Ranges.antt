@@ -1,4 +1,4 @@
--- For the code only: what the functions of `grams` ask of their arguments, the ranges of document 01's fields.
+-- For the code only: what the functions of `streams` ask of their arguments, the ranges of document 01's fields.
 use mathlib.Core.Path.{_≡_}
 use Prim.Native.Nat.{ℕ, _≤_}
 

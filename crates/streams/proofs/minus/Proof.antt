@@ -1,8 +1,8 @@
 -- `minus` meets its contract: the grams fit 63 bits. Assumes nothing.
 use borrow.Author.Needs.{needs}
 use Rattle.quantity.proofs.Methods.{minus-fits, minus-bits, minus-size}
-use Rattle.grams.proofs.streams.minus.Statement.{statement}
-use Rattle.grams.proofs.streams.minus.Tie as tie
+use Rattle.streams.proofs.minus.Statement.{statement}
+use Rattle.streams.proofs.minus.Tie as tie
 
 cast-size : tie.Need-cast-size
 cast-size c = search needs

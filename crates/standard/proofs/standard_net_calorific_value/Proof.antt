@@ -3,8 +3,8 @@ use borrow.Author.Needs.{needs}
 use native.Mathlib.Omega.{arith}
 use Rattle.quantity.specs.Standard.{fuels}
 use Rattle.quantity.proofs.Tables.{net-calorific-values, at-none, at-found, at-past}
-use Rattle.grams.proofs.standard.standard_net_calorific_value.Statement.{statement}
-use Rattle.grams.proofs.standard.standard_net_calorific_value.Tie as tie
+use Rattle.standard.proofs.standard_net_calorific_value.Statement.{statement}
+use Rattle.standard.proofs.standard_net_calorific_value.Tie as tie
 
 returns : tie.Need-returns
 returns c = (at-none net-calorific-values (c .before .args .code) (c .if1 .taken), omega arith)

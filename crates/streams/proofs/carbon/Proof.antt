@@ -2,8 +2,8 @@
 use native.Mathlib.Nat.{mul-le-mul}
 use native.Mathlib.Omega.{arith}
 use Rattle.quantity.specs.Streams.{carbonGrams}
-use Rattle.grams.proofs.streams.carbon.Statement.{statement}
-use Rattle.grams.proofs.streams.carbon.Tie as tie
+use Rattle.streams.proofs.carbon.Statement.{statement}
+use Rattle.streams.proofs.carbon.Tie as tie
 
 round-thousandths-requires : tie.Need-round-thousandths-requires
 round-thousandths-requires c κs = omega (arith, mul-le-mul (c .pre .mass) (c .pre .content))

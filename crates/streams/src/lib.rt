@@ -15,8 +15,8 @@ fn fossil(t2: Grams, c: u64, d: u64) -> Grams
     ensures { λ r. ⌜ r .0 ≡ fossilGrams (t2 .0) c d ⌝ }
     ensures bounded { λ r. ⌜ r .0 ≤ 1000000000000000 ⌝ }
 {
-    let t3 = crate::round_ten_thousandths(t2.0, c);
-    Grams(crate::round_ten_thousandths(t3, 10000 - d))
+    let t3 = grams::round_ten_thousandths(t2.0, c);
+    Grams(grams::round_ten_thousandths(t3, 10000 - d))
 }
 
 // Method 1, burning: T1 in MJ, T2 in g, then c and d.
@@ -25,8 +25,8 @@ pub fn combustion(mass: Kilos, a: u64, b: u64, c: u64, d: u64) -> Grams
     ensures { λ r. ⌜ r .0 ≡ combustionGrams (mass .0) a b c d ⌝ }
     ensures bounded { λ r. ⌜ r .0 ≤ 1000000000000000 ⌝ }
 {
-    let t1 = Megajoules(crate::round_thousandths(mass.0, a));
-    let t2 = Grams(crate::round_thousandths(t1.0, b));
+    let t1 = Megajoules(grams::round_thousandths(mass.0, a));
+    let t2 = Grams(grams::round_thousandths(t1.0, b));
     fossil(t2, c, d)
 }
 
@@ -36,7 +36,7 @@ pub fn process_emission(mass: Kilos, a: u64, c: u64, d: u64) -> Grams
     ensures { λ r. ⌜ r .0 ≡ processGrams (mass .0) a c d ⌝ }
     ensures bounded { λ r. ⌜ r .0 ≤ 1000000000000000 ⌝ }
 {
-    let t1 = crate::round_thousandths(mass.0, a);
+    let t1 = grams::round_thousandths(mass.0, a);
     fossil(Grams(t1), c, d)
 }
 
@@ -46,8 +46,8 @@ pub fn carbon(mass: Kilos, a: u64) -> Grams
     ensures { λ r. ⌜ r .0 ≡ carbonGrams (mass .0) a ⌝ }
     ensures bounded { λ r. ⌜ r .0 ≤ 1000000000000000 ⌝ }
 {
-    let t1 = crate::round_thousandths(mass.0, a);
-    Grams(crate::round_thousandths(t1, 3664))
+    let t1 = grams::round_thousandths(mass.0, a);
+    Grams(grams::round_thousandths(t1, 3664))
 }
 
 // Counted plus.

@@ -6,8 +6,8 @@ use native.Mathlib.Nat.{mul-le-mul}
 use native.Mathlib.Omega.{arith}
 use Rattle.quantity.specs.Rounding.{round}
 use Rattle.quantity.specs.Streams.{fossilGrams}
-use Rattle.grams.proofs.streams.fossil.Statement.{statement}
-use Rattle.grams.proofs.streams.fossil.Tie as tie
+use Rattle.streams.proofs.fossil.Statement.{statement}
+use Rattle.streams.proofs.fossil.Tie as tie
 
 round-ten-thousandths-requires : tie.Need-round-ten-thousandths-requires
 round-ten-thousandths-requires c κs = omega (arith, mul-le-mul (c .pre .0) (c .pre .1 .0))

@@ -1,8 +1,8 @@
 -- `plus` meets its contract: the grams fit 63 bits. Assumes nothing.
 use borrow.Author.Needs.{needs}
 use Rattle.quantity.proofs.Methods.{plus-bits}
-use Rattle.grams.proofs.streams.plus.Statement.{statement}
-use Rattle.grams.proofs.streams.plus.Tie as tie
+use Rattle.streams.proofs.plus.Statement.{statement}
+use Rattle.streams.proofs.plus.Tie as tie
 
 cast-t2 : tie.Need-cast-t2
 cast-t2 c = search needs

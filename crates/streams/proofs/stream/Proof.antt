@@ -4,8 +4,8 @@ use native.Mathlib.Omega.{arith}
 use mathlib.Core.Path.{_∙_}
 use Rattle.quantity.specs.Streams.{combustionGrams, streamGrams}
 use Rattle.quantity.proofs.Methods.{at-method, carbon-out, plus-of, minus-of}
-use Rattle.grams.proofs.streams.stream.Statement.{statement}
-use Rattle.grams.proofs.streams.stream.Tie as tie
+use Rattle.streams.proofs.stream.Statement.{statement}
+use Rattle.streams.proofs.stream.Tie as tie
 
 combustion-requires : tie.Need-combustion-requires
 combustion-requires c κs =

@@ -3,8 +3,8 @@ use borrow.Author.Needs.{needs}
 use native.Mathlib.Omega.{arith}
 use Rattle.quantity.specs.Standard.{fuels}
 use Rattle.quantity.proofs.Tables.{emission-factors, at-none, at-found, at-past}
-use Rattle.grams.proofs.standard.standard_emission_factor.Statement.{statement}
-use Rattle.grams.proofs.standard.standard_emission_factor.Tie as tie
+use Rattle.standard.proofs.standard_emission_factor.Statement.{statement}
+use Rattle.standard.proofs.standard_emission_factor.Tie as tie
 
 returns : tie.Need-returns
 returns c = (at-none emission-factors (c .before .args .code) (c .if1 .taken), omega arith)

@@ -3,8 +3,8 @@ use Prim.Native.Nat.{_≤_}
 use native.Mathlib.Nat.{mul-le-mul}
 use native.Mathlib.Omega.{arith}
 use Rattle.quantity.specs.Streams.{combustionGrams}
-use Rattle.grams.proofs.streams.combustion.Statement.{statement}
-use Rattle.grams.proofs.streams.combustion.Tie as tie
+use Rattle.streams.proofs.combustion.Statement.{statement}
+use Rattle.streams.proofs.combustion.Tie as tie
 
 round-thousandths-requires : tie.Need-round-thousandths-requires
 round-thousandths-requires c κs = omega (arith, mul-le-mul (c .pre .mass) (c .pre .calorific))

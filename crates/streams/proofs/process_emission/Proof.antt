@@ -2,8 +2,8 @@
 use native.Mathlib.Nat.{mul-le-mul}
 use native.Mathlib.Omega.{arith}
 use Rattle.quantity.specs.Streams.{processGrams}
-use Rattle.grams.proofs.streams.process_emission.Statement.{statement}
-use Rattle.grams.proofs.streams.process_emission.Tie as tie
+use Rattle.streams.proofs.process_emission.Statement.{statement}
+use Rattle.streams.proofs.process_emission.Tie as tie
 
 round-thousandths-requires : tie.Need-round-thousandths-requires
 round-thousandths-requires c κs = omega (arith, mul-le-mul (c .pre .mass) (c .pre .factor))

@@ -3,8 +3,8 @@ use borrow.Author.Needs.{needs}
 use native.Mathlib.Omega.{arith}
 use Rattle.quantity.specs.Standard.{carbonates}
 use Rattle.quantity.proofs.Tables.{carbonate-factors, at-none, at-found, at-past}
-use Rattle.grams.proofs.standard.standard_carbonate.Statement.{statement}
-use Rattle.grams.proofs.standard.standard_carbonate.Tie as tie
+use Rattle.standard.proofs.standard_carbonate.Statement.{statement}
+use Rattle.standard.proofs.standard_carbonate.Tie as tie
 
 returns : tie.Need-returns
 returns c = (at-none carbonate-factors (c .before .args .code) (c .if1 .taken), omega arith)
