@@ -11,11 +11,11 @@ ghost use Rattle.answers.specs.Given.{LONGEST, gives};
 ghost use Rattle.answers.specs.Within.{outcomeWithin};
 use checks::refusals::Refusal;
 use checks::refusals::refusal_number;
-use figures::put_byte;
-use figures::put_bytes;
 use quantity::limits::PROCESSES;
 use reckoning::Reckoning;
 use rows::put_report;
+use space::put_byte;
+use space::put_bytes;
 
 // No report has more bytes, and no refusal printed.
 pub const LONGEST: usize = 210 * PROCESSES + 83;

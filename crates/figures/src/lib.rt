@@ -1,9 +1,10 @@
 // Document 01, "The report": fields and lines written into a lent space. The definitions are in specs/ and in the report's.
-ghost use mathlib.Core.List.{_∷_, []};
-ghost use Prim.Native.Nat.{_+_, _≤_, _<_};
+ghost use mathlib.Core.List.{_∷_};
+ghost use Prim.Native.Nat.{_+_, _≤_};
 ghost use lib.ListN.{length, take};
 ghost use Rattle.decimal.specs.Writing.{Put};
 ghost use Rattle.figures.specs.Figures.{FIELDS, three, spelt, tailed, line};
+use space::put_byte;
 
 // As many fields as the longest line has behind its letter.
 pub const FIELDS: usize = 10;
@@ -15,16 +16,7 @@ pub enum Figure {
     Parts(u64, u64),
 }
 
-// Writes one byte at a place of a lent space, and gives the place after it, as all below do.
-pub fn put_byte(space: &mut [u8], at: usize, b: u8) -> usize
-    requires { ⌜ at < length (now space) ⌝ }
-    ensures { λ r. ⌜ Put (now (space .entry)) at (b ∷ []) (now (space .exit)) r ⌝ }
-{
-    space[at] = b;
-    at + 1
-}
-
-// Writes a dot and three digits.
+// Writes a dot and three digits, and gives the place after them, as all below do.
 fn put_three(space: &mut [u8], at: usize, t: u64) -> usize
     requires { ⌜ at + 4 ≤ length (now space) ⌝ }
     ensures { λ r. ⌜ Put (now (space .entry)) at (46 ∷ three t) (now (space .exit)) r ⌝ }
@@ -73,16 +65,4 @@ pub fn put_line(
         i += 1;
     }
     put_byte(space, next, b'\n')
-}
-
-// Writes the first n of some bytes at the start of a lent space.
-pub fn put_bytes(space: &mut [u8], bytes: &[u8], n: usize)
-    requires { ⌜ (n ≤ length (now space)) × (n ≤ length (now bytes)) ⌝ }
-    ensures { λ r. ⌜ Put (now (space .entry)) 0 (take n (now (bytes .entry))) (now (space .exit)) n ⌝ }
-{
-    let mut i: usize = 0;
-    while i < n {
-        space[i] = bytes[i];
-        i += 1;
-    }
 }

@@ -13,7 +13,6 @@ ghost use Rattle.sheet.specs.Most.{MOST};
 ghost use Rattle.rows.specs.Held.{CanBeWritten, rowSaid, fieldsOf, totalFields, rowsBytes, bytesHeld};
 use figures::FIELDS;
 use figures::Figure;
-use figures::put_byte;
 use figures::put_figure;
 use figures::put_line;
 use goods::SIZE;
@@ -21,6 +20,7 @@ use quantity::Grams;
 use quantity::Kilos;
 use quantity::SignedGrams;
 use reckoning::Reckoning;
+use space::put_byte;
 
 // Specific embedded emissions: pool/output in g/kg, three digits after the dot, cut down.
 fn specific_figure(pool: Grams, output: Kilos) -> Figure

@@ -1,9 +1,9 @@
--- `figures::put_byte` meets its contract. Assumes nothing.
+-- `space::put_byte` meets its contract. Assumes nothing.
 use mathlib.Core.Path.{refl}
 use Rattle.decimal.proofs.Writing.{written-one}
 use borrow.Author.Needs.{needs}
-use Rattle.figures.proofs.put_byte.Statement.{statement}
-use Rattle.figures.proofs.put_byte.Tie as tie
+use Rattle.space.proofs.put_byte.Statement.{statement}
+use Rattle.space.proofs.put_byte.Tie as tie
 
 slice-write-space : tie.Need-slice-write-space
 slice-write-space c = search needs

@@ -1,4 +1,4 @@
--- `figures::put_bytes` meets its contract. Assumes nothing.
+-- `space::put_bytes` meets its contract. Assumes nothing.
 use mathlib.Core.Path.{_≡_, refl}
 use mathlib.Core.List.{List, [], _∷_}
 use Prim.Native.Nat.{ℕ, _+_, _-_, _≤_, _<_}
@@ -9,8 +9,8 @@ use lib.Seq.{take-suc, length-take-le}
 use borrow.Author.Needs.{needs}
 use Rattle.decimal.specs.Writing.{Put}
 use Rattle.decimal.proofs.Writing.{written-one, then, put-none, put-kept}
-use Rattle.figures.proofs.put_bytes.Statement.{statement}
-use Rattle.figures.proofs.put_bytes.Tie as tie
+use Rattle.space.proofs.put_bytes.Statement.{statement}
+use Rattle.space.proofs.put_bytes.Tie as tie
 
 abbrev Inv-loop : tie.InvT-loop
 Inv-loop space₀ bytes n i₀ space i =
