@@ -1,6 +1,7 @@
 -- `read_line` meets its contract. Assumes nothing.
 use native.Mathlib.Omega.{arith}
-use Rattle.records.proofs.Fields.{head-ahead, eight-read, so-far-all}
+use Rattle.heads.proofs.Heads.{head-ahead}
+use Rattle.records.proofs.Fields.{eight-read, so-far-all}
 use borrow.Author.Needs.{needs}
 use Rattle.records.proofs.read_line.Statement.{statement}
 use Rattle.records.proofs.read_line.Tie as tie

@@ -5,8 +5,10 @@ use native.Mathlib.Omega.{arith}
 use borrow.Author.Needs.{needs}
 use mathlib.Core.Path.{_≡_, sym, _∙_}
 use lib.ListN.{length}
-use Rattle.records.specs.Reading.{commaAt, ReadSoFar}
-use Rattle.records.proofs.Fields.{comma-in, so-far-all, so-far-more}
+use Rattle.heads.specs.Left.{commaAt}
+use Rattle.heads.proofs.Left.{comma-in}
+use Rattle.records.specs.Reading.{ReadSoFar}
+use Rattle.records.proofs.Fields.{so-far-all, so-far-more}
 use Rattle.records.proofs.read_on.Statement.{statement}
 use Rattle.records.proofs.read_on.Tie as tie
 

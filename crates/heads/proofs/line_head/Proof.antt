@@ -6,10 +6,10 @@ use native.Mathlib.Omega.{arith}
 use borrow.Author.Tests.{ltb-true}
 use lib.ListN.{length}
 use Rattle.decimal.proofs.Bools.{and-both}
-use Rattle.records.proofs.Fields.{letter-head, no-letter}
+use Rattle.heads.proofs.Heads.{letter-head, no-letter}
 use borrow.Author.Needs.{needs}
-use Rattle.records.proofs.line_head.Statement.{statement}
-use Rattle.records.proofs.line_head.Tie as tie
+use Rattle.heads.proofs.line_head.Statement.{statement}
+use Rattle.heads.proofs.line_head.Tie as tie
 
 sub-last : tie.Need-sub-last
 sub-last c = search needs

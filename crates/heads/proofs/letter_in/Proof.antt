@@ -1,8 +1,8 @@
 -- `letter_in` meets its contract. Assumes nothing.
-use Rattle.records.proofs.Fields.{letter-one, letter-none}
+use Rattle.heads.proofs.Heads.{letter-one, letter-none}
 use borrow.Author.Needs.{needs}
-use Rattle.records.proofs.letter_in.Statement.{statement}
-use Rattle.records.proofs.letter_in.Tie as tie
+use Rattle.heads.proofs.letter_in.Statement.{statement}
+use Rattle.heads.proofs.letter_in.Tie as tie
 
 sub-if1 : tie.Need-sub-if1
 sub-if1 c = search needs

@@ -1,10 +1,10 @@
 -- `next_field` meets its contract. Assumes nothing.
 use mathlib.Core.Path.{sym, _∙_}
 use native.Mathlib.Omega.{arith}
-use Rattle.records.proofs.Fields.{ahead-inside, step-tried, step-none, step-done}
+use Rattle.steps.proofs.Steps.{ahead-inside, step-tried, step-none, step-done}
 use borrow.Author.Needs.{needs}
-use Rattle.records.proofs.next_field.Statement.{statement}
-use Rattle.records.proofs.next_field.Tie as tie
+use Rattle.steps.proofs.next_field.Statement.{statement}
+use Rattle.steps.proofs.next_field.Tie as tie
 
 add-short-field : tie.Need-add-short-field
 add-short-field c =

@@ -1,9 +1,9 @@
 -- `any_head` meets its contract. Assumes nothing.
 use mathlib.Core.Path.{refl}
-use Rattle.records.proofs.Fields.{any-head}
+use Rattle.heads.proofs.Heads.{any-head}
 use borrow.Author.Needs.{needs}
-use Rattle.records.proofs.any_head.Statement.{statement}
-use Rattle.records.proofs.any_head.Tie as tie
+use Rattle.heads.proofs.any_head.Statement.{statement}
+use Rattle.heads.proofs.any_head.Tie as tie
 
 first-end-requires : tie.Need-first-end-requires
 first-end-requires c κs = search needs

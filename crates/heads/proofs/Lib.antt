@@ -1,0 +1,3 @@
+-- Laws that the crates above cite.
+pub mod Left
+pub mod Heads

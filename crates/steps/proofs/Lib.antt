@@ -1,0 +1,2 @@
+-- Laws of one step.
+mod Steps

@@ -1,0 +1,2 @@
+-- For the code only: Steps.
+pub mod Steps
