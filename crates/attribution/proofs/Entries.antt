@@ -19,7 +19,7 @@ use Rattle.attribution.specs.Attribution.{streams, heatIn, heatOut, gasC
 use Rattle.attribution.specs.Attribution.{boughtDirect, boughtIndirect, balance}
 use Rattle.attribution.specs.Reckoning.{kilosOf, kilosBetween, entered, uncredited}
 use Rattle.entries.specs.Entries.{entry}
-use Rattle.attribution.specs.Accepted.{Valid}
+use Rattle.attribution.proofs.EveryKind.{Valid}
 use Rattle.attribution.proofs.Differences.{diff, diff-plus, diff-minus}
 use Rattle.goods.proofs.Sums.{at-other, at-le, at-none}
 use Rattle.attribution.proofs.Sums.{ofℤ-diff}

@@ -16,8 +16,9 @@ use Rattle.lines.specs.Records.{Record, numberAt}
 use Rattle.sheet.specs.Kinds.{Kind, Process, SourceStream, MeasurableHeat, WasteGas, Electricity, BoughtPrecursor, OwnGood, Unknown, kind, is, rules}
 use Rattle.sheet.specs.Refusals.{process, from, to, hasProcess, missingProcess, endsNotAllowed}
 use Rattle.sheet.specs.Ranges.{KeepsRanges}
+use Rattle.sheet.specs.Verdict.{All}
 use Rattle.sheet.proofs.Table.{is-kind}
-use Rattle.goods.specs.Sums.{onlyAt}
+use Rattle.goods.specs.Sums.{sumTo, onlyAt}
 use Rattle.goods.proofs.Sums.{at-le, at-none, at-outside}
 use Rattle.ledger.specs.Ledger.{SmallGrams, Small}
 use Rattle.ledger.specs.Raising.{raisedToZero, gramsAdded}
@@ -25,9 +26,30 @@ use Rattle.ledger.specs.declared.Entry.{Entry}
 use Rattle.moves.specs.Moved.{betweenProcesses}
 use Rattle.entries.specs.Weighed.{streamOf, heatOf, chargeOf, creditOf, electricityOf, boughtDirectOf, boughtIndirectOf}
 use Rattle.entries.specs.Entries.{entryOf, entry}
-use Rattle.attribution.specs.Accepted.{ValidOf, Valid}
+use Rattle.attribution.specs.Reckoning.{processCount, output, kilosBetween}
 use Rattle.entries.proofs.Ranges.{in-rules}
 use Rattle.entries.proofs.Streams.{process-range, stream-range}
+
+-- ---- what the records of every sheet have by which no row 1 to 14 applies
+
+-- a line of each kind, in a works of n processes
+abbrev pub ValidOf : (n : ℕ) → Kind → Record → Type 0
+ValidOf n Process r = (1 ≤ process r) × (process r ≤ n)
+ValidOf n SourceStream r = (1 ≤ process r) × (process r ≤ n)
+ValidOf n MeasurableHeat r = (from r ≤ n) × (to r ≤ n)
+ValidOf n WasteGas r = (from r ≤ n) × (to r ≤ n) × (from r ≡ to r → ⊥) × (1 ≤ numberAt r 2)
+ValidOf n Electricity r = (from r ≤ n) × (to r ≤ n)
+ValidOf n BoughtPrecursor r = (1 ≤ process r) × (process r ≤ n)
+ValidOf n OwnGood r = (1 ≤ from r) × (from r < to r) × (to r ≤ n)
+ValidOf n Unknown r = ⊥
+
+abbrev pub Valid : (n : ℕ) → Record → Type 0
+Valid n r = ValidOf n (kind r) r
+
+-- every line is valid, and no more is taken of a good than its output
+pub record Accepted (rs : List Record) : Type 0 where
+  pub valid : All (Valid (processCount rs)) rs
+  pub within : (i : ℕ) → sumTo (processCount rs) (kilosBetween rs i) ≤ output rs i
 
 -- ---- what an entry puts into process k and takes from it
 

@@ -20,8 +20,8 @@ use Rattle.ledger.specs.Raising.{gramsAdded}
 use Rattle.entries.specs.Weighed.{chargeOf, creditOf}
 use Rattle.attribution.specs.Attribution.{balance, raised}
 use Rattle.attribution.specs.Reckoning.{processCount, totalLeft, entered, totalRaised, uncredited}
-pub use Rattle.attribution.specs.Exact.{GasBetween, NothingAdded}
-use Rattle.attribution.specs.Accepted.{Valid, Accepted}
+use Rattle.attribution.specs.Exact.{GasBetween, NothingAdded}
+use Rattle.attribution.proofs.EveryKind.{Valid, Accepted}
 use Rattle.attribution.proofs.Differences.{diff, diff-pos, diff-eq, diff-inj, diff-ge, diff-lt}
 use Rattle.goods.proofs.Sums.{sum-zero-at, sum-zero-all}
 use Rattle.entries.specs.Entries.{entry}

@@ -16,7 +16,7 @@ use Rattle.goods.proofs.Sums.{at-other}
 use Rattle.entries.specs.Entries.{entry}
 use Rattle.attribution.specs.Attribution.{indirect}
 use Rattle.attribution.specs.Reckoning.{output}
-use Rattle.attribution.specs.Accepted.{Valid}
+use Rattle.attribution.proofs.EveryKind.{Valid}
 use Rattle.attribution.proofs.EveryKind.{valid-even}
 use Rattle.attribution.proofs.Entries.{figures}
 

@@ -25,7 +25,7 @@ use Rattle.entries.specs.Entries.{entry}
 use Rattle.attribution.specs.Attribution.{direct, indirect, raised, boughtDirect, boughtIndirect}
 use Rattle.attribution.specs.Reckoning.{Row, processCount, output, kilosBetween, directPool, indirectPool, directLeft, indirectLeft}
 use Rattle.attribution.specs.Reckoning.{totalLeft, entered, totalRaised, uncredited, rowOf, rowsTo, reckoning}
-use Rattle.attribution.specs.Accepted.{Accepted}
+use Rattle.attribution.proofs.EveryKind.{Accepted}
 use Rattle.attribution.specs.Verdict.{rowGrams, rowsGrams, anyFrom, figureTooLarge, reckonerChecks}
 use Rattle.attribution.proofs.Differences.{diff-size}
 use Rattle.attribution.proofs.EveryKind.{small-grams}

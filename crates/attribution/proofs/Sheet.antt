@@ -9,10 +9,10 @@ use Rattle.quantity.specs.Limits.{Limits}
 use Rattle.lines.specs.Records.{recordsOf}
 use Rattle.sheet.specs.Verdict.{sheetChecks}
 use Rattle.sheet.specs.Verdict.{All, Passes}
-pub use Rattle.attribution.specs.Reckoning.{totalsOf}
+use Rattle.attribution.specs.Reckoning.{totalsOf}
 use Rattle.attribution.specs.Reckoning.{reckoning}
 use Rattle.attribution.specs.Exact.{NothingAdded}
-use Rattle.attribution.specs.Accepted.{Accepted}
+use Rattle.attribution.proofs.EveryKind.{Accepted}
 use Rattle.attribution.proofs.Valid.{sheet-accepted}
 use Rattle.attribution.proofs.Works.{left-is-entered-raised-uncredited}
 use Rattle.attribution.proofs.Exact.{left-equals-entered, otherwise-greater}

@@ -17,7 +17,7 @@ use Rattle.sheet.specs.Refusals.{anyOf, sumOf, process, from, to, outputIn, tak
 use Rattle.sheet.specs.Verdict.{sheetChecks, All, Passes}
 use Rattle.sheet.proofs.Passed.{PassedLine, PassedLines, sheet-passed}
 use Rattle.goods.specs.Sums.{sumTo, onlyAt}
-use Rattle.attribution.specs.Accepted.{Valid, Accepted}
+use Rattle.attribution.proofs.EveryKind.{Valid, Accepted}
 use Rattle.attribution.specs.Reckoning.{kilosOf, processCount, output, kilosBetween}
 use Rattle.goods.proofs.Sums.{sum-none, at-sum-le}
 use Rattle.attribution.proofs.Sums.{sum-swap, of-le}

@@ -13,7 +13,7 @@ use Rattle.goods.specs.Sums.{sumTo, onlyAt}
 use Rattle.ledger.specs.Raising.{gramsAdded, raisedToZero}
 use Rattle.attribution.specs.Attribution.{raised, direct, indirect, boughtDirect, boughtIndirect}
 use Rattle.attribution.specs.Reckoning.{processCount, output, kilosBetween, directLeft, indirectLeft, totalLeft, entered, totalRaised, uncredited}
-use Rattle.attribution.specs.Accepted.{Valid, Accepted}
+use Rattle.attribution.proofs.EveryKind.{Valid, Accepted}
 use Rattle.attribution.proofs.Differences.{diff-pos, diff-plus, diff-eq, raised-diff, added-diff}
 use Rattle.goods.proofs.Sums.{sum-add, sum-ext, at-sum}
 use Rattle.attribution.proofs.Sums.{sum-swap}

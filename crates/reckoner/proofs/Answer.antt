@@ -26,7 +26,7 @@ use Rattle.reckoning.specs.Refused.{refusedBy}
 use Rattle.reckoner.specs.Closed.{acceptedAs}
 use Rattle.large_figures.specs.Large.{anyLarge, largeTotals, large}
 use Rattle.gathering.specs.declared.Read.{Read}
-use Rattle.attribution.specs.Accepted.{Accepted}
+use Rattle.attribution.proofs.EveryKind.{Accepted}
 use Rattle.attribution.proofs.Valid.{sheet-accepted}
 use Rattle.attribution.proofs.RowFifteen.{SumsBelow, RowBelow, row-below, left-below-limit, sheet-sums, fifteen-never-given}
 use Rattle.attribution.proofs.Works.{left-is-entered-raised-uncredited}

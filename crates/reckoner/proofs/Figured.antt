@@ -19,7 +19,7 @@ use Rattle.gathering.specs.Gathered.{Gathered}
 use Rattle.reckoner.specs.Reckoned.{FiguresOf}
 use Rattle.reckoner.specs.Closed.{acceptedAs}
 use Rattle.works.specs.declared.Works.{Works}
-use Rattle.attribution.specs.Accepted.{Accepted}
+use Rattle.attribution.proofs.EveryKind.{Accepted}
 use Rattle.attribution.proofs.Outside.{no-output}
 use Rattle.reckoner.proofs.Ready.{own-direct-is, own-indirect-is, raised-is, pairs-is, raised-sum}
 

@@ -18,7 +18,7 @@ use Rattle.works.specs.declared.Works.{Works}
 use Rattle.attribution.proofs.Entries.{forward}
 use Rattle.attribution.proofs.Outside.{no-power}
 use Rattle.attribution.proofs.RowFifteen.{SumsBelow}
-use Rattle.attribution.specs.Accepted.{Accepted}
+use Rattle.attribution.proofs.EveryKind.{Accepted}
 
 module _ (rs : List Record) (w : Works) (kilos : List ℕ) (g : Gathered rs w kilos) (ok : Accepted rs) where
   abbrev n : ℕ
