@@ -1,4 +1,3 @@
 -- Laws of the lines of a reckoning's report.
 pub mod Figures
 pub mod Rows
-pub mod Totals

@@ -14,7 +14,8 @@ use Rattle.report.specs.Spelling.{spellLines, rowLine, totalLine, reportBytes}
 use Rattle.figures.specs.Figures.{FIELDS, three, spelt, tailed, line, held}
 use Rattle.figures.proofs.Widths.{length-line}
 use Rattle.reckoning.specs.declared.Reckoning.{Reckoning}
-use Rattle.rows.specs.Held.{rowHeld, rowsHeld, totalsHeld, reckoningHeld, fieldsOf, rowFields, totalFields, rowsBytes, bytesHeld}
+use Rattle.rows.specs.Held.{rowHeld, rowsHeld, lastHeld, reckoningHeld, fieldsOf, rowFields, rowsBytes, bytesHeld}
+use Rattle.last_line.specs.Totals.{totalsSaid, totalFields}
 
 -- ---- fields as the code holds them
 
@@ -92,10 +93,10 @@ rows-more r k =
     (lines-append (map rowLine (map reportRow (rowsHeld r k))) (rowLine (reportRow (rowHeld r (suc k))) ∷ [])
     ∙ ap (λ (l : List ℕ). spellLines (map rowLine (map reportRow (rowsHeld r k))) ++ l) (row-line r (suc k)))
 
-pub report-parts : (r : Reckoning) → bytesHeld r ≡ rowsBytes r (r .count) ++ line 84 (totalFields r)
+pub report-parts : (r : Reckoning) → bytesHeld r ≡ rowsBytes r (r .count) ++ line 84 (totalFields (lastHeld r))
 unfolding bytesHeld reportBytes reportOf reckoningHeld rowsBytes totalFields totalLine
 report-parts r =
-    lines-append (map rowLine (map reportRow (rowsHeld r (r .count)))) (totalLine (totalsHeld r) ∷ [])
+    lines-append (map rowLine (map reportRow (rowsHeld r (r .count)))) (totalLine (totalsSaid (lastHeld r)) ∷ [])
     ∙ ap (λ (l : List ℕ). spellLines (map rowLine (map reportRow (rowsHeld r (r .count)))) ++ l) (line-is 84 _)
 
 pub row-whole : (r : Reckoning) (k : ℕ) → take FIELDS (rowFields r k) ≡ rowFields r k
@@ -109,10 +110,10 @@ rows-long r k =
     ap length (rows-more r k) ∙ length-append (rowsBytes r k) (line 82 (rowFields r (k + 1)))
     ∙ ap (λ (n : ℕ). length (rowsBytes r k) + n) (length-line 82 (rowFields r (k + 1)))
 
-pub report-long : (r : Reckoning) → length (bytesHeld r) ≡ length (rowsBytes r (r .count)) + (length (tailed (totalFields r)) + 2)
+pub report-long : (r : Reckoning) → length (bytesHeld r) ≡ length (rowsBytes r (r .count)) + (length (tailed (totalFields (lastHeld r))) + 2)
 report-long r =
-    ap length (report-parts r) ∙ length-append (rowsBytes r (r .count)) (line 84 (totalFields r))
-    ∙ ap (λ (n : ℕ). length (rowsBytes r (r .count)) + n) (length-line 84 (totalFields r))
+    ap length (report-parts r) ∙ length-append (rowsBytes r (r .count)) (line 84 (totalFields (lastHeld r)))
+    ∙ ap (λ (n : ℕ). length (rowsBytes r (r .count)) + n) (length-line 84 (totalFields (lastHeld r)))
 
 -- the lines of the first processes are no longer than those of more
 pub rows-within : (r : Reckoning) (i n : ℕ) → i ≤ n → length (rowsBytes r i) ≤ length (rowsBytes r n)

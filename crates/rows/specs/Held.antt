@@ -6,11 +6,13 @@ use Rattle.quantity.specs.Limits.{wholeGrams}
 use Rattle.goods.specs.ByProcess.{SIZE, figures}
 use Rattle.attribution.specs.Reckoning as attribution
 use Rattle.report.specs.Report.{reportRow, reportOf}
-use Rattle.report.specs.Spelling.{rowLine, totalLine, spellLines, reportBytes}
+use Rattle.report.specs.Spelling.{rowLine, spellLines, reportBytes}
 use Rattle.figures.specs.Figures.{held}
 use Rattle.figures.specs.declared.Figure.{Figure}
 use Rattle.sheet.specs.Most.{MOST}
 use Rattle.reckoning.specs.declared.Reckoning.{Reckoning}
+use Rattle.last_line.specs.Totals.{totalsSaid}
+use Rattle.last_line.specs.declared.LastLine.{LastLine}
 use Rattle.rows.specs.declared.Row.{Row}
 
 -- what the writer asks of a reckoning
@@ -34,13 +36,9 @@ rowHeld r k = record {
   indirectLeft = figures (r .figures .«indirect_lefts» .0) k;
 }
 
-abbrev pub totalsHeld : Reckoning → attribution.Totals
-totalsHeld r = record {
-  left = r .figures .left .0;
-  entered = r .entered .0;
-  raised = r .figures .«total_raised» .0;
-  uncredited = r .uncredited .0;
-}
+-- the totals as the code passes them on
+abbrev pub lastHeld : Reckoning → LastLine
+lastHeld r = record { left = r .figures .left; entered = r .entered; raised = r .figures .«total_raised»; uncredited = r .uncredited }
 
 -- of processes 1 .. k
 unfoldable pub rowsHeld : Reckoning → (k : ℕ) → List attribution.Row
@@ -48,7 +46,7 @@ rowsHeld r zero = []
 rowsHeld r (suc k) = rowsHeld r k ++ (rowHeld r (suc k) ∷ [])
 
 unfoldable pub reckoningHeld : Reckoning → attribution.Reckoning
-reckoningHeld r = record { rows = rowsHeld r (r .count); totals = totalsHeld r }
+reckoningHeld r = record { rows = rowsHeld r (r .count); totals = totalsSaid (lastHeld r) }
 
 -- a process's figures as the code passes them on
 abbrev pub rowSaid : Row → attribution.Row
@@ -70,9 +68,6 @@ fieldsOf row = map held (rowLine (reportRow row) .fields)
 
 abbrev pub rowFields : Reckoning → (k : ℕ) → List Figure
 rowFields r k = fieldsOf (rowHeld r k)
-
-unfoldable pub totalFields : Reckoning → List Figure
-totalFields r = map held (totalLine (totalsHeld r) .fields)
 
 -- the bytes of the lines of processes 1 .. k, and of all lines
 unfoldable pub rowsBytes : Reckoning → (k : ℕ) → List ℕ

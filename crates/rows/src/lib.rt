@@ -2,25 +2,22 @@
 ghost use mathlib.Core.Path.{_≡_};
 ghost use Prim.Native.Nat.{_+_, _≤_, _<_};
 ghost use lib.ListN.{length};
-ghost use lib.IntN.{natAbs};
-ghost use Rattle.quantity.specs.Limits.{wholeGrams};
 ghost use Rattle.decimal.specs.Writing.{Put};
 ghost use Rattle.report.specs.Report.{specific};
-ghost use Rattle.report.specs.Spelling.{thousandths, signed};
-ghost use Rattle.figures.specs.Figures.{FIELDS, held, tailed, line};
+ghost use Rattle.report.specs.Spelling.{thousandths};
+ghost use Rattle.figures.specs.Figures.{FIELDS, held};
 ghost use Rattle.goods.specs.ByProcess.{SIZE, figures};
 ghost use Rattle.sheet.specs.Most.{MOST};
-ghost use Rattle.rows.specs.Held.{CanBeWritten, rowSaid, fieldsOf, totalFields, rowsBytes, bytesHeld};
+ghost use Rattle.rows.specs.Held.{CanBeWritten, rowSaid, fieldsOf, rowsBytes, bytesHeld};
 use figures::FIELDS;
 use figures::Figure;
-use figures::put_figure;
 use figures::put_line;
 use goods::SIZE;
+use last_line::LastLine;
+use last_line::put_totals;
 use quantity::Grams;
 use quantity::Kilos;
-use quantity::SignedGrams;
 use reckoning::Reckoning;
-use space::put_byte;
 
 // Specific embedded emissions: pool/output in g/kg, three digits after the dot, cut down.
 fn specific_figure(pool: Grams, output: Kilos) -> Figure
@@ -30,18 +27,6 @@ fn specific_figure(pool: Grams, output: Kilos) -> Figure
     let grams = pool.0;
     let kilos = output.0;
     Figure::Parts(grams / kilos, grams % kilos * 1000 / kilos)
-}
-
-// A total that may carry `-`.
-fn signed_figure(total: SignedGrams) -> Figure
-    requires { ⌜ natAbs (total .0) < wholeGrams ⌝ }
-    ensures { λ r. ⌜ r ≡ held (signed (total .0)) ⌝ }
-{
-    let grams = total.0;
-    if grams < 0 {
-        return Figure::Minus((0 - grams) as u64);
-    }
-    Figure::Whole(grams as u64)
 }
 
 // What the line of a process shows, and its output.
@@ -95,20 +80,6 @@ fn row_fields(row: Row) -> [Figure; FIELDS]
     ]
 }
 
-// Writes the last line.
-fn put_totals(space: &mut [u8], at: usize, r: Reckoning) -> usize
-    requires { ⌜ (CanBeWritten r) × (at + (length (tailed (totalFields r)) + 2) ≤ length (now space)) ⌝ }
-    ensures { λ n. ⌜ Put (now (space .entry)) at (line 84 (totalFields r)) (now (space .exit)) n ⌝ }
-{
-    let entered = signed_figure(r.entered);
-    let letter = put_byte(space, at, b'T');
-    let left = put_figure(space, letter, Figure::Whole(r.figures.left.0));
-    let entering = put_figure(space, left, entered);
-    let raised = put_figure(space, entering, Figure::Whole(r.figures.total_raised.0));
-    let uncredited = put_figure(space, raised, Figure::Whole(r.uncredited.0));
-    put_byte(space, uncredited, b'\n')
-}
-
 // Writes the lines of all processes.
 fn put_rows(space: &mut [u8], r: Reckoning) -> usize
     requires { ⌜ (CanBeWritten r) × (length (bytesHeld r) ≤ length (now space)) ⌝ }
@@ -142,5 +113,16 @@ pub fn put_report(space: &mut [u8], r: Reckoning) -> usize
     ensures { λ n. ⌜ Put (now (space .entry)) 0 (bytesHeld r) (now (space .exit)) n ⌝ }
 {
     let at = put_rows(space, r);
-    put_totals(space, at, r)
+    let figures = r.figures;
+    let left = figures.left;
+    let entered = r.entered;
+    let raised = figures.total_raised;
+    let uncredited = r.uncredited;
+    let last = LastLine {
+        left,
+        entered,
+        raised,
+        uncredited,
+    };
+    put_totals(space, at, last)
 }

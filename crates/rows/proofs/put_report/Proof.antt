@@ -11,18 +11,18 @@ put-rows-requires c κs = search needs
 
 put-totals-requires : tie.Need-put-totals-requires
 put-totals-requires c κs =
-    let s = c .before .before .before .before .before .before in
-    let rows = c .before .before .before .put-rows in
-    (s .pre .0, omega (arith, report-long (s .args .r), rows .kept .0, rows .ensures .place, s .pre .1))
+    let rows = c .before .before .before .before .before .before .before .before in
+    let s = rows .before .before .before in
+    (s .pre .0 .sign, omega (arith, report-long (s .args .r), rows .put-rows .kept .0, rows .put-rows .ensures .place, s .pre .1))
 
 same-length : tie.Need-same-length
 same-length c = search needs
 
 returns : tie.Need-returns
 returns c =
-    let s = c .before .before .before .before .before .before .before .before .before in
-    let rows = c .before .before .before .before .before .before .put-rows in
-    rw (report-parts (s .args .r)) (then (omega (arith, report-long (s .args .r), s .pre .1)) (rows .ensures) (c .before .before .put-totals .ensures))
+    let rows = c .before .before .before .before .before .before .before .before .before .before .before in
+    let s = rows .before .before .before in
+    rw (report-parts (s .args .r)) (then (omega (arith, report-long (s .args .r), s .pre .1)) (rows .put-rows .ensures) (c .before .before .put-totals .ensures))
 
 pub put-report-spec : {M : Type 1} → statement M
 put-report-spec =

@@ -1,4 +1,4 @@
--- `rows::put_totals` meets its contract. Assumes nothing.
+-- `last_line::put_totals` meets its contract. Assumes nothing.
 use mathlib.Core.Path.{_≡_, ap, _∙_}
 use Prim.Native.Nat.{ℕ, _+_}
 use native.Mathlib.Omega.{arith}
@@ -6,10 +6,10 @@ use lib.ListN.{length}
 use borrow.Author.Needs.{needs}
 use Rattle.decimal.proofs.Writing.{then}
 use Rattle.figures.specs.declared.Figure.{Figure}
-use Rattle.reckoning.specs.declared.Reckoning.{Reckoning}
-use Rattle.rows.proofs.Totals.{wide, leftFigure, enteredFigure, raisedFigure, uncreditedFigure, totals-long, totals-line}
-use Rattle.rows.proofs.put_totals.Statement.{statement}
-use Rattle.rows.proofs.put_totals.Tie as tie
+use Rattle.last_line.specs.declared.LastLine.{LastLine}
+use Rattle.last_line.proofs.Totals.{wide, leftFigure, enteredFigure, raisedFigure, uncreditedFigure, totals-long, totals-line}
+use Rattle.last_line.proofs.put_totals.Statement.{statement}
+use Rattle.last_line.proofs.put_totals.Tie as tie
 
 -- the space stays as long as it was, and each field is put behind the one before it
 module _ (b : tie.After-put-byte) where
@@ -26,8 +26,8 @@ module _ (b : tie.After-put-byte) where
   abbrev Behind : (place size width : ℕ) → Type 0
   Behind place size width = (size ≡ long) × (place ≡ start .args .at + 1 + width)
 
-  abbrev width : (Reckoning → Figure) → ℕ
-  width f = wide (f (start .args .r))
+  abbrev width : (LastLine → Figure) → ℕ
+  width f = wide (f (start .args .last))
 
   letter-put : Behind (b .put-byte .result) (length (b .put-byte .last .0)) 0
   letter-put = (b .put-byte .kept .0, omega (arith, b .put-byte .ensures .place))
@@ -81,7 +81,7 @@ put-figure-requires : tie.Need-put-figure-requires
 put-figure-requires c κs =
     let b = c .before .before .before in
     let s = start b in
-    omega (arith, totals-long (s .args .r), s .pre .1, b .put-byte .kept .0, b .put-byte .ensures .place)
+    omega (arith, totals-long (s .args .last), s .pre .1, b .put-byte .kept .0, b .put-byte .ensures .place)
 
 put-figure-requires-2 : tie.Need-put-figure-requires-2
 put-figure-requires-2 c κs =
@@ -89,28 +89,28 @@ put-figure-requires-2 c κs =
     let s = start (left-letter f) in
     let p = left-put f in
     let e = ap wide (shown (left-letter f) .signed-figure .ensures) in
-    omega (arith, totals-long (s .args .r), s .pre .1, p .0, p .1, e)
+    omega (arith, totals-long (s .args .last), s .pre .1, p .0, p .1, e)
 
 put-figure-requires-3 : tie.Need-put-figure-requires-3
 put-figure-requires-3 c κs =
     let g = c .before .before .before in
     let p = entered-put g in
     let s = start (entered-letter g) in
-    omega (arith, totals-long (s .args .r), s .pre .1, p .0, p .1)
+    omega (arith, totals-long (s .args .last), s .pre .1, p .0, p .1)
 
 put-figure-requires-4 : tie.Need-put-figure-requires-4
 put-figure-requires-4 c κs =
     let h = c .before .before .before in
     let p = raised-put h in
     let s = start (raised-letter h) in
-    omega (arith, totals-long (s .args .r), s .pre .1, p .0, p .1)
+    omega (arith, totals-long (s .args .last), s .pre .1, p .0, p .1)
 
 put-byte-requires-2 : tie.Need-put-byte-requires-2
 put-byte-requires-2 c κs =
     let i = c .before .before .before in
     let p = uncredited-put i in
     let s = start (uncredited-letter i) in
-    omega (arith, totals-long (s .args .r), s .pre .1, p .0, p .1)
+    omega (arith, totals-long (s .args .last), s .pre .1, p .0, p .1)
 
 same-length : tie.Need-same-length
 same-length c = search needs
@@ -123,10 +123,10 @@ returns c =
     let f = g .before .before .before .before in
     let b = left-letter f in
     let s = start b in
-    let w = totals-long (s .args .r) in
+    let w = totals-long (s .args .last) in
     let room = s .pre .1 in
     let second = rw (shown b .signed-figure .ensures) at (g .put-figure2 .ensures) in
-    rw (totals-line (s .args .r))
+    rw (totals-line (s .args .last))
     (then (omega (arith, w, room)) (b .put-byte .ensures)
     (then (omega (arith, w, room, letter-put b .0, letter-put b .1)) (f .put-figure .ensures)
     (then (omega (arith, w, room, left-put f .0, left-put f .1)) second

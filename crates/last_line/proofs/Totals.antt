@@ -8,8 +8,8 @@ use Rattle.report.specs.Spelling.{signed, totalLine}
 use Rattle.figures.specs.Figures.{spelt, tailed, line, held}
 use Rattle.figures.specs.declared.Figure.{Figure}
 use Rattle.figures.specs.declared.Figure.the-variants.{Whole}
-use Rattle.reckoning.specs.declared.Reckoning.{Reckoning}
-use Rattle.rows.specs.Held.{totalFields}
+use Rattle.last_line.specs.Totals.{totalFields}
+use Rattle.last_line.specs.declared.LastLine.{LastLine}
 
 -- a comma and a field
 abbrev pub wide : Figure → ℕ
@@ -23,20 +23,20 @@ tailed-then : (f : Figure) (fs : List Figure) (l : List ℕ) → tailed (f ∷ f
 unfolding tailed
 tailed-then f fs l = append-assoc (44 ∷ spelt f) (tailed fs) l
 
-module _ (r : Reckoning) where
+module _ (last : LastLine) where
   abbrev pub leftFigure : Figure
-  leftFigure = Whole (r .figures .left .0)
+  leftFigure = Whole (last .left .0)
 
   abbrev pub enteredFigure : Figure
-  enteredFigure = held (signed (r .entered .0))
+  enteredFigure = held (signed (last .entered .0))
 
   abbrev pub raisedFigure : Figure
-  raisedFigure = Whole (r .figures .«total_raised» .0)
+  raisedFigure = Whole (last .raised .0)
 
   abbrev pub uncreditedFigure : Figure
-  uncreditedFigure = Whole (r .uncredited .0)
+  uncreditedFigure = Whole (last .uncredited .0)
 
-  pub totals-long : length (tailed (totalFields r)) ≡ wide leftFigure + (wide enteredFigure + (wide raisedFigure + wide uncreditedFigure))
+  pub totals-long : length (tailed (totalFields last)) ≡ wide leftFigure + (wide enteredFigure + (wide raisedFigure + wide uncreditedFigure))
   unfolding totalFields totalLine tailed
   totals-long =
       let a = tailed-long leftFigure (enteredFigure ∷ raisedFigure ∷ uncreditedFigure ∷ []) in
@@ -45,7 +45,7 @@ module _ (r : Reckoning) where
       let d = tailed-long uncreditedFigure [] in
       omega (arith, a, b, c, d)
 
-  pub totals-line : line 84 (totalFields r)
+  pub totals-line : line 84 (totalFields last)
       ≡ (84 ∷ []) ++ ((44 ∷ spelt leftFigure) ++ ((44 ∷ spelt enteredFigure) ++ ((44 ∷ spelt raisedFigure) ++ ((44 ∷ spelt uncreditedFigure) ++ (10 ∷ [])))))
   unfolding line totalFields totalLine tailed
   totals-line =

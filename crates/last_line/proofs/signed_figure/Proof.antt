@@ -1,12 +1,12 @@
--- `rows::signed_figure` meets its contract, below zero and above. Assumes nothing.
+-- `last_line::signed_figure` meets its contract, below zero and above. Assumes nothing.
 use mathlib.Core.Path.{_≡_}
 use native.Mathlib.Omega.{arith}
 use lib.IntN.{pos, _-ℤ_}
 use mir.Syntax.{w64}
 use mir.Val.{toZ, ofZ}
-use Rattle.rows.proofs.Figures.{sfits, back, Below, below, Above, above}
-use Rattle.rows.proofs.signed_figure.Statement.{statement}
-use Rattle.rows.proofs.signed_figure.Tie as tie
+use Rattle.last_line.proofs.Signed.{sfits, back, Below, below, Above, above}
+use Rattle.last_line.proofs.signed_figure.Statement.{statement}
+use Rattle.last_line.proofs.signed_figure.Tie as tie
 
 same : (c : tie.Start) → toZ w64 (ofZ w64 (c .args .total .0)) ≡ c .args .total .0
 same c = back (c .args .total .0) (c .pre)

@@ -1,0 +1,2 @@
+-- For the code only: Totals.
+pub mod Totals
