@@ -3,8 +3,8 @@ use borrow.Author.Needs.{needs}
 use Rattle.sheet.specs.Kinds.{processEmission}
 use Rattle.checks.specs.Numbers.{refusalNumber}
 use Rattle.checks.proofs.Chain.{none, then, by-rules}
-use Rattle.source_streams.proofs.process_emission.Statement.{statement}
-use Rattle.source_streams.proofs.process_emission.Tie as tie
+use Rattle.methods.proofs.process_emission.Statement.{statement}
+use Rattle.methods.proofs.process_emission.Tie as tie
 
 returns : tie.Need-returns
 returns c =
