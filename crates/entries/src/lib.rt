@@ -31,7 +31,7 @@ fn weigh_heat(l: LineRead) -> Entry
     ensures { λ r. ⌜ r ≡ entry (recordRead l) ⌝ }
 {
     let weight = grams::weighing::heat_weight(Megajoules(l.words[2]), l.words[3]);
-    moves::heat_entry(l.words[0] as usize, l.words[1] as usize, weight)
+    transferred::heat_entry(l.words[0] as usize, l.words[1] as usize, weight)
 }
 
 // `W,from,to,MJ`.
@@ -40,7 +40,7 @@ fn weigh_gas(l: LineRead) -> Entry
     requires { ⌜ l .letter ≡ letter WasteGas ⌝ }
     ensures { λ r. ⌜ r ≡ entry (recordRead l) ⌝ }
 {
-    moves::gas_entry(
+    transferred::gas_entry(
         l.words[0] as usize,
         l.words[1] as usize,
         Megajoules(l.words[2]),
@@ -54,7 +54,7 @@ fn weigh_electricity(l: LineRead) -> Entry
     ensures { λ r. ⌜ r ≡ entry (recordRead l) ⌝ }
 {
     let weight = grams::weighing::electricity_weight(l.words[2], l.words[3]);
-    moves::electricity_entry(l.words[0] as usize, l.words[1] as usize, weight)
+    transferred::electricity_entry(l.words[0] as usize, l.words[1] as usize, weight)
 }
 
 // `B,n,kg,direct,indirect`.

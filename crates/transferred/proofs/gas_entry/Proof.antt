@@ -2,9 +2,9 @@
 use native.Mathlib.Omega.{arith}
 use borrow.Author.Needs.{needs}
 use Rattle.quantity.proofs.Weights.{credit-below-charge}
-use Rattle.moves.proofs.Amounts.{gas-amounts}
-use Rattle.moves.proofs.gas_entry.Statement.{statement}
-use Rattle.moves.proofs.gas_entry.Tie as tie
+use Rattle.transferred.proofs.Amounts.{gas-amounts}
+use Rattle.transferred.proofs.gas_entry.Statement.{statement}
+use Rattle.transferred.proofs.gas_entry.Tie as tie
 
 gas-charge-requires : tie.Need-gas-charge-requires
 gas-charge-requires c κs = search needs

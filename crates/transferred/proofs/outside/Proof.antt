@@ -2,8 +2,8 @@
 use mathlib.Core.Path.{sym}
 use borrow.Author.Tests.{eq-eqb, ne-eqb}
 use Rattle.goods.specs.Sums.{onlyAt}
-use Rattle.moves.proofs.outside.Statement.{statement}
-use Rattle.moves.proofs.outside.Tie as tie
+use Rattle.transferred.proofs.outside.Statement.{statement}
+use Rattle.transferred.proofs.outside.Tie as tie
 
 returns : tie.Need-returns
 unfolding onlyAt

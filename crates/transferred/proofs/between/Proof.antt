@@ -2,8 +2,8 @@
 use mathlib.Core.Path.{sym}
 use borrow.Author.Tests.{eq-eqb, ne-eqb}
 use borrow.Author.Needs.{needs}
-use Rattle.moves.proofs.between.Statement.{statement}
-use Rattle.moves.proofs.between.Tie as tie
+use Rattle.transferred.proofs.between.Statement.{statement}
+use Rattle.transferred.proofs.between.Tie as tie
 
 returns : tie.Need-returns
 returns c = rw (eq-eqb 0 (c .before .args .from) (sym (c .if1 .taken)))
