@@ -23,7 +23,7 @@ use Rattle.goods.proofs.Sums.{at-le, at-none, at-outside}
 use Rattle.ledger.specs.Ledger.{SmallGrams, Small}
 use Rattle.ledger.specs.Raising.{raisedToZero, gramsAdded}
 use Rattle.ledger.specs.declared.Entry.{Entry}
-use Rattle.moves.specs.Moved.{betweenProcesses}
+use Rattle.ledger.specs.Moved.{betweenProcesses}
 use Rattle.entries.specs.Weighed.{streamOf, heatOf, chargeOf, creditOf, electricityOf, boughtDirectOf, boughtIndirectOf}
 use Rattle.entries.specs.Entries.{entryOf, entry}
 use Rattle.attribution.specs.Reckoning.{processCount, output, kilosBetween}

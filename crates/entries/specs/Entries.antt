@@ -3,7 +3,7 @@
 use Rattle.lines.specs.Records.{Record}
 use Rattle.sheet.specs.Kinds.{Kind, Process, SourceStream, MeasurableHeat, WasteGas, Electricity, BoughtPrecursor, OwnGood, Unknown, kind}
 use Rattle.sheet.specs.Refusals.{process, from, to}
-use Rattle.moves.specs.Moved.{noGramsMoved, streamMoved, heatMoved, gasMoved, electricityMoved, boughtMoved}
+use Rattle.ledger.specs.Moved.{noGramsMoved, streamMoved, heatMoved, gasMoved, electricityMoved, boughtMoved}
 use Rattle.entries.specs.Weighed.{streamOf, heatOf, chargeOf, creditOf, electricityOf, boughtDirectOf, boughtIndirectOf}
 use Rattle.ledger.specs.declared.Entry.{Entry}
 

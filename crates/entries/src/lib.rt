@@ -80,6 +80,6 @@ pub fn weigh(l: LineRead) -> Entry
         b'W' => weigh_gas(l),
         b'E' => weigh_electricity(l),
         b'B' => weigh_bought(l),
-        _ => moves::nothing(),
+        _ => ledger::nothing(),
     }
 }

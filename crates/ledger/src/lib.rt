@@ -7,6 +7,7 @@ ghost use Rattle.goods.specs.Sums.{sumTo};
 ghost use Rattle.goods.specs.ByProcess.{SIZE, figures, Column};
 ghost use Rattle.goods.specs.Settling.{NoFigures};
 ghost use Rattle.ledger.specs.Ledger.{Small, added, chargedAndCredited};
+ghost use Rattle.ledger.specs.Moved.{noGramsMoved};
 ghost use Rattle.ledger.specs.Raising.{gramsAdded, raisedToZero};
 ghost use Rattle.ledger.specs.Columns.{BEFORE_ENTRY, SizeAtMost, RoomAt, FitTogether, signedFigures, together};
 use goods::GramsByProcess;
@@ -33,6 +34,26 @@ pub struct Entry {
     pub entering: Grams,
     pub leaving: Grams,
     pub uncredited: Grams,
+}
+
+// A line that moves no grams.
+pub fn nothing() -> Entry
+    ensures { λ r. ⌜ r ≡ noGramsMoved ⌝ }
+{
+    Entry {
+        charged: 0,
+        charge: Grams(0),
+        credited: 0,
+        credit: Grams(0),
+        user: 0,
+        electricity: Grams(0),
+        buyer: 0,
+        direct: Grams(0),
+        indirect: Grams(0),
+        entering: Grams(0),
+        leaving: Grams(0),
+        uncredited: Grams(0),
+    }
 }
 
 // The grams of the whole works: what entered it, less what left it, and what stays uncredited.

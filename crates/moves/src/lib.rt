@@ -2,30 +2,11 @@
 ghost use mathlib.Core.Path.{_≡_};
 ghost use Prim.Native.Nat.{_≤_};
 ghost use lib.IntN.{natAbs};
-ghost use Rattle.moves.specs.Moved.{noGramsMoved, streamMoved, boughtMoved};
+ghost use Rattle.ledger.specs.Moved.{streamMoved, boughtMoved};
 use ledger::Entry;
+use ledger::nothing;
 use quantity::Grams;
 use quantity::SignedGrams;
-
-// A line that moves no grams.
-pub fn nothing() -> Entry
-    ensures { λ r. ⌜ r ≡ noGramsMoved ⌝ }
-{
-    Entry {
-        charged: 0,
-        charge: Grams(0),
-        credited: 0,
-        credit: Grams(0),
-        user: 0,
-        electricity: Grams(0),
-        buyer: 0,
-        direct: Grams(0),
-        indirect: Grams(0),
-        entering: Grams(0),
-        leaving: Grams(0),
-        uncredited: Grams(0),
-    }
-}
 
 // A bought precursor: both figures enter the works.
 pub fn bought_entry(buyer: usize, direct: Grams, indirect: Grams) -> Entry

@@ -2,7 +2,7 @@
 use mathlib.Core.Path.{_≡_}
 use Prim.Native.Nat.{ℕ, _-_}
 use Rattle.goods.specs.Sums.{onlyAt}
-use Rattle.moves.specs.Moved.{moved, betweenProcesses, gasMoved}
+use Rattle.ledger.specs.Moved.{moved, betweenProcesses, gasMoved}
 
 -- an entry of waste gas, whose other amounts follow from charge and credit
 pub gas-amounts : (from to : ℕ) {charge credit entering leaving uncredited G K : ℕ} → charge ≡ G → credit ≡ K

@@ -3,9 +3,9 @@ ghost use mathlib.Core.Path.{_≡_};
 ghost use Prim.Native.Nat.{_-_, _≤_};
 ghost use Rattle.goods.specs.Sums.{onlyAt};
 ghost use Rattle.quantity.specs.Weights.{wasteGasCharge, wasteGasCredit};
-ghost use Rattle.moves.specs.Moved.{heatMoved, betweenProcesses, gasMoved, electricityMoved};
+ghost use Rattle.ledger.specs.Moved.{heatMoved, betweenProcesses, gasMoved, electricityMoved};
 use ledger::Entry;
-use moves::nothing;
+use ledger::nothing;
 use quantity::Grams;
 use quantity::Megajoules;
 

@@ -5,7 +5,7 @@ use borrow.Author.Needs.{needs}
 use borrow.Author.Tests.{ne-eqb}
 use lib.Dec.{eqb}
 use Rattle.lines.specs.Records.{Record}
-use Rattle.moves.specs.Moved.{noGramsMoved}
+use Rattle.ledger.specs.Moved.{noGramsMoved}
 use Rattle.sheet.specs.Kinds.{Process, OwnGood, Unknown, kindOf, kindAmong}
 use Rattle.entries.specs.Entries.{entryOf}
 use Rattle.entries.specs.Read.{recordRead}

@@ -9,7 +9,7 @@ use Rattle.lines.specs.declared.LineRead.{LineRead}
 use Rattle.quantity.specs.Limits.{limits}
 use Rattle.quantity.specs.Weights.{weight}
 use Rattle.sheet.specs.Kinds.{BoughtPrecursor, letter, rules}
-use Rattle.moves.specs.Moved.{boughtMoved}
+use Rattle.ledger.specs.Moved.{boughtMoved}
 use Rattle.entries.specs.Weighed.{boughtDirectOf, boughtIndirectOf}
 use Rattle.entries.specs.Entries.{entry}
 use Rattle.entries.specs.Read.{recordRead, LineKeeps}

@@ -9,7 +9,7 @@ use Rattle.lines.specs.declared.LineRead.{LineRead}
 use Rattle.quantity.specs.Limits.{limits}
 use Rattle.quantity.specs.Weights.{weight}
 use Rattle.sheet.specs.Kinds.{Electricity, letter, rules}
-use Rattle.moves.specs.Moved.{electricityMoved}
+use Rattle.ledger.specs.Moved.{electricityMoved}
 use Rattle.entries.specs.Weighed.{electricityOf}
 use Rattle.entries.specs.Entries.{entry}
 use Rattle.entries.specs.Read.{recordRead, LineKeeps}

@@ -9,7 +9,7 @@ use Rattle.lines.specs.declared.LineRead.{LineRead}
 use Rattle.quantity.specs.Limits.{limits}
 use Rattle.quantity.specs.Weights.{wasteGasCharge, wasteGasCredit}
 use Rattle.sheet.specs.Kinds.{WasteGas, letter, rules}
-use Rattle.moves.specs.Moved.{gasMoved}
+use Rattle.ledger.specs.Moved.{gasMoved}
 use Rattle.entries.specs.Weighed.{chargeOf, creditOf}
 use Rattle.entries.specs.Entries.{entry}
 use Rattle.entries.specs.Read.{recordRead, LineKeeps}

@@ -9,7 +9,7 @@ use Rattle.lines.specs.declared.LineRead.{LineRead}
 use Rattle.quantity.specs.Limits.{limits}
 use Rattle.quantity.specs.Weights.{weight}
 use Rattle.sheet.specs.Kinds.{MeasurableHeat, letter, rules}
-use Rattle.moves.specs.Moved.{heatMoved}
+use Rattle.ledger.specs.Moved.{heatMoved}
 use Rattle.entries.specs.Weighed.{heatOf}
 use Rattle.entries.specs.Entries.{entry}
 use Rattle.entries.specs.Read.{recordRead, LineKeeps}

@@ -14,7 +14,7 @@ use Rattle.quantity.specs.Ranges.{StreamRange}
 use Rattle.quantity.specs.Standard.{standardA, standardB}
 use Rattle.quantity.specs.Streams.{streamGrams}
 use Rattle.sheet.specs.Kinds.{SourceStream, letter, kind}
-use Rattle.moves.specs.Moved.{streamMoved}
+use Rattle.ledger.specs.Moved.{streamMoved}
 use Rattle.entries.specs.Weighed.{orStandard, streamOf}
 use Rattle.entries.specs.Entries.{entry}
 use Rattle.entries.specs.Read.{recordRead, LineKeeps, orStandardWord}

@@ -4,7 +4,7 @@ use Prim.Native.Nat.{ℕ}
 use native.Mathlib.Omega.{arith}
 use borrow.Author.Needs.{needs}
 use Rattle.ledger.specs.Raising.{raisedToZero, gramsAdded}
-use Rattle.moves.specs.Moved.{moved}
+use Rattle.ledger.specs.Moved.{moved}
 use Rattle.moves.proofs.stream_entry.Statement.{statement}
 use Rattle.moves.proofs.stream_entry.Tie as tie
 

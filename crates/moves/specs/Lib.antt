@@ -1,2 +1,0 @@
--- For the code only: Moved.
-pub mod Moved
