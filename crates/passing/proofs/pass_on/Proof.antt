@@ -68,8 +68,11 @@ portions-requires c κs =
     let h = c .before .before .before .before in
     let p = start h .pre .1 .1 .0 in
     let within = taken-within h (c .before .before .before .loop-test .taken) in (
-      record { within = within; positive = p .some; small = p .small },
-      (next-rises (h .loop .inv .2), next-rises (h .loop .inv .3)),
+      record { within = omega (arith, within); positive = p .some; small = p .small },
+      (
+        omega (arith, next-rises (h .loop .inv .2), h .loop .inv .2 .given-is),
+        omega (arith, next-rises (h .loop .inv .3), h .loop .inv .3 .given-is),
+      ),
     )
 
 -- both portions are had
