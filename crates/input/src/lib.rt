@@ -1,4 +1,4 @@
-// Document 01, "The report": whether the program `carbon` read its standard input to the end.
+// Document 01: whether the program `carbon` read the sheet from standard input to its end.
 ghost use mathlib.Core.Path.{_≡_};
 ghost use Rattle.input.specs.End.{atEnd};
 use quantity::limits::BYTES;

@@ -1,4 +1,4 @@
-// What the reckoner gives of a sheet: document 01, "Refusals" and the figures of "The report".
+// What the reckoner gives of a sheet: document 01, "Sheets sent back" and the figures of "The report".
 ghost use mathlib.Core.Path.{_≡_};
 ghost use Rattle.reckoning.specs.Refused.{refusedBy};
 use checks::refusals::Refusal;

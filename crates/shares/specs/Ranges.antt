@@ -1,4 +1,4 @@
--- For the code only: what `with_bit`, `quotient` and `portion` ask of their arguments.
+-- For the code only: what `with_bit`, `quotients` and `portions` ask of their arguments.
 use Prim.Native.Nat.{ℕ, _+_, _*_, _^_, _≤_, _<_}
 
 -- a part of a whole: the whole is at most 2^61

@@ -22,7 +22,8 @@ returns : tie.Need-returns
 returns c =
     let rows = c .before .before .before .before .before .before .before .before .before .before .before in
     let s = rows .before .before .before in
-    rw (report-parts (s .args .r)) (then (omega (arith, report-long (s .args .r), s .pre .1)) (rows .put-rows .ensures) (c .before .before .put-totals .ensures))
+    let room = report-long (s .args .r) in
+    rw (report-parts (s .args .r)) (then (omega (arith, room, s .pre .1)) (rows .put-rows .ensures) (c .before .before .put-totals .ensures))
 
 pub put-report-spec : {M : Type 1} → statement M
 put-report-spec =
