@@ -1,5 +1,6 @@
 // Sheets that another implementation of document 01 judged, kept as data: each is judged again, and number, line, length and every byte of
-// a report space that was filled before are compared. A case is five numbers of eight digits (sheet length, space length, number, line,
+// a report space that was filled before are compared. Each is also read as records and written again: the same bytes, or the same refusal,
+// report space aside. A case is five numbers of eight digits (sheet length, space length, number, line,
 // report length), the sheet, and the report.
 ghost use Prim.Native.Nat.{_+_, _≤_, _<_};
 use libc::STDIN_FILENO;
@@ -11,6 +12,13 @@ const HEADER: usize = 40;
 const SHEET: usize = 131072;
 
 const SPACE: usize = 8192;
+
+// The longest accepted sheet, and the words of the records of the greatest number of lines.
+const WRITTEN: usize = 65536;
+
+const RECORDS: usize = 4096;
+
+const LIST: usize = 9 * RECORDS;
 
 // What every byte of a space is before: no byte of a report.
 const FILL: u8 = 165;
@@ -59,6 +67,41 @@ fn as_wanted(space: &[u8; SPACE], wanted: &[u8; SPACE], length: usize) -> bool {
     true
 }
 
+// Whether the sheet stands first in the space.
+fn same_bytes(sheet: &[u8], space: &[u8; WRITTEN]) -> bool {
+    if WRITTEN < sheet.len() {
+        return false;
+    }
+    let mut i: usize = 0;
+    while i < sheet.len() {
+        if sheet[i] != space[i] {
+            return false;
+        }
+        i += 1;
+    }
+    true
+}
+
+// Whether the sheet is refused as a sheet to be read, by this number and line, or its records, written, are the same bytes.
+fn round_trip(sheet: &[u8], number: usize, line: usize) -> bool {
+    let mut list = [0u64; LIST];
+    let mut space = [FILL; WRITTEN];
+    let r = sheet_reader::read(sheet, &mut list);
+    if r.number != 0 {
+        return (r.number == (number as u64)) & (r.line == line);
+    }
+    // 16: the report space of the case is too short
+    if (number != 0) & (number != 16) {
+        return false;
+    }
+    let count = r.length;
+    if RECORDS < count {
+        return false;
+    }
+    let w = sheet_writer::write(&list[..9 * count], &mut space);
+    (w.number == 0) & (w.length == sheet.len()) & same_bytes(sheet, &space)
+}
+
 // Whether a case, whose numbers are read, comes out as it should.
 fn holds(h: &[u8; HEADER]) -> bool {
     let size = number_at(h, 0);
@@ -87,6 +130,7 @@ fn holds(h: &[u8; HEADER]) -> bool {
         & (a.line == number_at(h, 24))
         & (a.length == length)
         & as_wanted(&space, &wanted, length)
+        & round_trip(&sheet[..size], number_at(h, 16), number_at(h, 24))
 }
 
 fn main() {

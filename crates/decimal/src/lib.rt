@@ -50,12 +50,11 @@ pub fn width(n: u64) -> usize
     fewest + 1
 }
 
-// Writes a number's digits at a place of a lent space, from the last to the first, and gives the place after them.
-pub fn put(space: &mut [u8], at: usize, n: u64) -> usize
-    requires { ⌜ at + length (spelling n) ≤ length (now space) ⌝ }
-    ensures { λ r. ⌜ Put (now (space .entry)) at (spelling n) (now (space .exit)) r ⌝ }
+// Writes a number's digits before a place of a lent space, from the last to the first, and gives the place of the first.
+pub fn put_before(space: &mut [u8], end: usize, n: u64) -> usize
+    requires { ⌜ (length (spelling n) ≤ end) × (end ≤ length (now space)) ⌝ }
+    ensures { λ r. ⌜ Put (now (space .entry)) r (spelling n) (now (space .exit)) end ⌝ }
 {
-    let end = at + width(n);
     let mut place = end;
     let mut left = n;
     while 99 < left {
@@ -66,10 +65,20 @@ pub fn put(space: &mut [u8], at: usize, n: u64) -> usize
         left = left / 100;
     }
     if left < 10 {
-        space[at] = 48 + (left as u8);
-        return end;
+        space[place - 1] = 48 + (left as u8);
+        return place - 1;
     }
-    space[at + 1] = 48 + ((left % 10) as u8);
-    space[at] = 48 + ((left / 10) as u8);
+    space[place - 1] = 48 + ((left % 10) as u8);
+    space[place - 2] = 48 + ((left / 10) as u8);
+    place - 2
+}
+
+// Writes a number's digits at a place of a lent space, and gives the place after them.
+pub fn put(space: &mut [u8], at: usize, n: u64) -> usize
+    requires { ⌜ at + length (spelling n) ≤ length (now space) ⌝ }
+    ensures { λ r. ⌜ Put (now (space .entry)) at (spelling n) (now (space .exit)) r ⌝ }
+{
+    let end = at + width(n);
+    put_before(space, end, n);
     end
 }

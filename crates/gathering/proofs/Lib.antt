@@ -5,3 +5,4 @@ pub mod AnyOrder
 pub mod Standing
 pub mod AllLines
 pub mod Gathering
+pub mod FromBytes

@@ -185,7 +185,7 @@ fields-spelt (f ∷ fs) = ap (λ (l : List ℕ). COMMA ∷ (spellField f ++ l)) 
 fields-lack : (byte : ℕ) → byte < 45 → (fs : List Field) → allLack byte (map spellField fs) ≡ true
 fields-lack byte low = spelt-lack byte spellField (field-lacks byte low)
 
-line-lacks-LF : (r : Record) → isLetter (r .letter) ≡ true → lacks LF (spellLine r) ≡ true
+pub line-lacks-LF : (r : Record) → isLetter (r .letter) ≡ true → lacks LF (spellLine r) ≡ true
 unfolding spellLine
 line-lacks-LF r h =
     lacks-append LF (r .letter ∷ []) (spellFields (r .said)) (letter-lacks (r .letter) LF h (omega arith))

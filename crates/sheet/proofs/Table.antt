@@ -96,7 +96,7 @@ each-passes test [] h = tt
 each-passes test (x ∷ xs) h = let both = and-both (test x) (allOf test xs) h in (both .0, each-passes test xs (both .1))
 
 -- a source stream's fields from code on, by each method and by none
-abbrev methodRows : List (List Rule)
+abbrev pub methodRows : List (List Rule)
 methodRows = combustion ∷ processEmission ∷ massBalance ∷ noMethod ∷ []
 
 pub by-method : (P : List Rule → Type 0) → All P methodRows → (f : Field) → P (methodRules f)

@@ -81,6 +81,22 @@ number-at-requires-5 c κs = search needs
 as-wanted-requires : tie.Need-as-wanted-requires
 as-wanted-requires c κs = search needs
 
+array-share-prefix-sheet-2 : tie.Need-array-share-prefix-sheet-2
+array-share-prefix-sheet-2 c =
+    array-share-prefix-sheet (c .before .before .before .before .before .before .before .before .before .before .before .before)
+
+slice-aggregate-round-trip : tie.Need-slice-aggregate-round-trip
+slice-aggregate-round-trip c = sym (length-take-le _ _ (array-share-prefix-sheet-2 (c .before)))
+
+number-at-requires-6 : tie.Need-number-at-requires-6
+number-at-requires-6 c κs = search needs
+
+number-at-requires-7 : tie.Need-number-at-requires-7
+number-at-requires-7 c κs = search needs
+
+round-trip-requires : tie.Need-round-trip-requires
+round-trip-requires c κs = search needs
+
 returns-6 : tie.Need-returns-6
 returns-6 c = search needs
 
@@ -110,4 +126,9 @@ holds-spec =
     number-at-requires-4
     number-at-requires-5
     as-wanted-requires
+    array-share-prefix-sheet-2
+    slice-aggregate-round-trip
+    number-at-requires-6
+    number-at-requires-7
+    round-trip-requires
     returns-6)

@@ -16,7 +16,7 @@ use Rattle.entries.specs.Read.{LineKeeps}
 use Rattle.attribution.proofs.EveryKind.{small-entry}
 use Rattle.works.specs.Works.{RoomForLine, aboveOf, readNumber}
 use Rattle.gathering.proofs.Standing.{room-for-line, room}
-use Rattle.reading.proofs.FromBytes.{ReadingAt, here, at-start, accepted-at, refused-at, kilos-at, keeps-at, end-at, made-at, verdict-at, gathered-at}
+use Rattle.gathering.proofs.FromBytes.{ReadingAt, here, at-start, accepted-at, refused-at, kilos-at, keeps-at, end-at, made-at, verdict-at, gathered-at}
 use Rattle.reading.proofs.read_lines.Statement.{statement}
 use Rattle.reading.proofs.read_lines.Tie as tie
 

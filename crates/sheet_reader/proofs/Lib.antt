@@ -1,2 +1,2 @@
 -- Laws that the proof cites.
-mod FromBytes
+mod Outcomes

@@ -1,0 +1,4 @@
+-- Laws that the proofs cite.
+mod Given
+mod Judging
+mod Whole

@@ -1,0 +1,12 @@
+-- `judged::size_of` meets its contract. Assumes nothing.
+use Rattle.judged.proofs.size_of.Statement.{statement}
+use Rattle.judged.proofs.size_of.Tie as tie
+
+returns : tie.Need-returns
+returns c = rw (c .if1 .taken)
+
+returns-2 : tie.Need-returns-2
+returns-2 c = rw (c .if1 .left)
+
+pub size-of-spec : {M : Type 1} → statement M
+size-of-spec = tie.close (tie.spec returns returns-2)

@@ -1,0 +1,2 @@
+-- For the code only: Judged.
+pub mod Judged

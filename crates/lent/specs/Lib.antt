@@ -1,0 +1,3 @@
+-- For the reader: Lent. For the code only: AsRead.
+pub mod Lent
+pub mod AsRead

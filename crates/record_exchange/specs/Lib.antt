@@ -1,0 +1,3 @@
+-- For the reader: Exchange. Examples: Cases.
+pub mod Exchange
+pub mod Cases

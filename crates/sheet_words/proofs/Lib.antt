@@ -1,0 +1,3 @@
+-- Laws of the words that are put.
+pub mod RecordWords
+pub mod EveryLine
