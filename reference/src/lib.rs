@@ -3,9 +3,12 @@
 //!
 //! The data goes through the modules in this order: `sheet` parts the bytes
 //! into lines and fields, `refusals` judges each line, `reckoning` takes the
-//! judged lines and settles them, `report` spells the figures.
+//! judged lines and settles them, `report` spells the figures. `records` has
+//! the same lines as numbers, writes their sheet and reads them from one.
 
 pub mod reckoning;
+pub mod record_samples;
+pub mod records;
 pub mod refusals;
 pub mod report;
 pub mod samples;
@@ -14,8 +17,9 @@ pub mod sheet;
 use reckoning::{Account, Both, Works};
 use refusals::{Fault, Refusal, judge};
 use report::Report;
-use sheet::{Field, Fields, MOST_BYTES, MOST_FIELDS, MOST_LINES, read_line};
+use sheet::{Field, Fields, Line, MOST_BYTES, MOST_FIELDS, MOST_LINES, read_line};
 
+pub use records::{Read, Written, read_sheet, write_sheet};
 pub use sheet::line_at;
 
 /// The answer to a sheet. An accepted sheet has number 0 and line 0; a refused
@@ -86,10 +90,20 @@ fn reckon_by(portion: impl Fn(Both, u64, u64) -> Both, sheet: &[u8]) -> Result<A
     works.settle(portion).map_err(on_no_line)
 }
 
-/// Reads and judges the whole sheet, and enters its lines. Compiled once, so
+/// Reads and judges the whole sheet and enters its lines. Compiled once, so
 /// that the reading is the same whatever gives the quotients.
 #[inline(never)]
 fn read(sheet: &[u8], works: &mut Works) -> Result<(), Refusal> {
+    read_and_show(sheet, works, |_, _| {})
+}
+
+/// The same, and letter and fields of each line that passed are shown.
+#[inline(always)]
+fn read_and_show(
+    sheet: &[u8],
+    works: &mut Works,
+    mut show: impl FnMut(u8, &[Field]),
+) -> Result<(), Refusal> {
     if sheet.len() > MOST_BYTES {
         return Err(on_no_line(Fault::TooManyBytes));
     }
@@ -101,30 +115,33 @@ fn read(sheet: &[u8], works: &mut Works) -> Result<(), Refusal> {
     let mut number = 0;
     while !rest.is_empty() {
         number += 1;
-        let length = take_line(rest, number, &mut fields, works).map_err(|fault| Refusal {
+        let line = take_line(rest, number, &mut fields, works).map_err(|fault| Refusal {
             fault,
             line: number,
         })?;
-        rest = &rest[length..];
+        show(rest[0], &fields[..line.count]);
+        rest = &rest[line.length..];
     }
     Ok(())
 }
 
-/// Enters the line at the start of `rest` and gives its length. What `fields`
-/// holds before is of no account; it is lent so that it need not be moved.
-#[inline]
+/// Enters the line at the start of `rest`. What `fields` holds before is of no
+/// account; it is lent so that it need not be moved. This and what it calls is
+/// always inlined: a call for each line takes some hundredths of the time of
+/// reading.
+#[inline(always)]
 fn take_line(
     rest: &[u8],
     number: u32,
     fields: &mut Fields,
     works: &mut Works,
-) -> Result<usize, Fault> {
+) -> Result<Line, Fault> {
     if number > MOST_LINES {
         return Err(Fault::TooManyLines);
     }
     let line = read_line(rest, fields)?;
-    works.enter(judge(line, fields, works)?);
-    Ok(line.length)
+    works.enter(judge(line.kind, line.count, fields, works)?);
+    Ok(line)
 }
 
 fn on_no_line(fault: Fault) -> Refusal {

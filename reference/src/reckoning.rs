@@ -183,7 +183,7 @@ impl Works {
         &mut self.process[process - 1]
     }
 
-    #[inline]
+    #[inline(always)]
     pub fn enter(&mut self, entry: Entry) {
         if let Entry::Process { output } = entry {
             self.count += 1;

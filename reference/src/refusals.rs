@@ -4,7 +4,7 @@
 use std::ops::RangeInclusive;
 
 use crate::reckoning::{Stream, Works};
-use crate::sheet::{Field, Fields, Kind, Line};
+use crate::sheet::{Field, Fields, Kind};
 
 /// A fault; its number is the one given to the caller.
 #[derive(Clone, Copy, Debug, PartialEq, Eq)]
@@ -121,13 +121,14 @@ const CARBONATES: [u64; 9] = [
 ];
 
 /// Judges one line by faults 5 to 13, the works being what the lines above
-/// have made of it.
-#[inline]
-pub fn judge(line: Line, field: &Fields, works: &Works) -> Result<Entry, Fault> {
-    if line.count != line.kind.field_count() {
+/// have made of it. The line has been read, or is a record's and never was
+/// bytes; `count` is that of its fields after the first, even past those kept.
+#[inline(always)]
+pub fn judge(kind: Kind, count: usize, field: &Fields, works: &Works) -> Result<Entry, Fault> {
+    if count != kind.field_count() {
         return Err(Fault::FieldCount);
     }
-    match line.kind {
+    match kind {
         Kind::Process => {
             let process = number(field[0], PROCESS)?;
             let output = number(field[1], KILOS)?;

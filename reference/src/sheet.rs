@@ -27,7 +27,8 @@ pub enum Kind {
 }
 
 impl Kind {
-    fn of(letter: u8) -> Option<Kind> {
+    #[inline]
+    pub fn of(letter: u8) -> Option<Kind> {
         Some(match letter {
             b'P' => Kind::Process,
             b'S' => Kind::Stream,
@@ -57,12 +58,28 @@ impl Kind {
 pub struct Field(u64);
 
 impl Field {
-    /// Neither a number nor `-`.
-    pub const OTHER: Field = Field(u64::MAX);
-    /// The single byte `-`.
-    pub const DASH: Field = Field(u64::MAX - 1);
+    /// The single byte `-`. A record has the same word for it.
+    pub const DASH: Field = Field(u64::MAX);
+    /// Neither a number nor `-`. No record has such a field.
+    pub const OTHER: Field = Field(u64::MAX - 1);
     /// A number of 20 digits or more.
     const LONG_NUMBER: Field = Field(u64::MAX - 2);
+
+    /// The field that a record's word spells. A number so large that it has the
+    /// word of a mark has 20 digits and goes to the mark of long numbers.
+    #[inline]
+    pub fn of_word(word: u64) -> Field {
+        match Field(word) {
+            Field::DASH => Field::DASH,
+            number => number.min(Field::LONG_NUMBER),
+        }
+    }
+
+    /// The word that a record has for a number in its range or `-`.
+    #[inline]
+    pub const fn word(self) -> u64 {
+        self.0
+    }
 
     /// The number if it is in the range, which must end below the marks.
     #[inline]
@@ -90,7 +107,7 @@ pub struct Line {
 
 /// Reads the line at the start of `bytes`; its fields after the first go to
 /// `fields`, those past `MOST_FIELDS` are not kept.
-#[inline]
+#[inline(always)]
 pub fn read_line(bytes: &[u8], fields: &mut Fields) -> Result<Line, Fault> {
     let kind = match bytes {
         [letter, b',' | b'\n', ..] => Kind::of(*letter),
