@@ -4,20 +4,13 @@
  * where such a page ends. The sheet can be read only. */
 
 #define _GNU_SOURCE
-#include <stddef.h>
-#include <stdint.h>
-#include <stdio.h>
-#include <stdlib.h>
-#include <string.h>
-#include <sys/mman.h>
-#include <unistd.h>
-
+#include "common.h"
 #include "wiltoresh.h"
 
 uint64_t plain_report(const uint8_t *sheet, size_t sheet_length, uint8_t *space, size_t space_length, size_t *line,
                       size_t *length);
 
-enum { PAGE = 4096, SHEET_ROOM = 32 * PAGE, SPACE_ROOM = 2 * PAGE };
+enum { SHEET_ROOM = 32 * PAGE, SPACE_ROOM = 2 * PAGE };
 
 typedef struct {
     uint64_t number;
@@ -25,67 +18,26 @@ typedef struct {
     size_t length;
 } Answer;
 
+static Room sheet_room;
 /* Memory between two pages that may not be touched. */
-static const uint8_t *sheet_room;
 static uint8_t *space_room;
-/* The memory of sheet_room once more, to be written. */
-static uint8_t *sheet_copy;
 /* What a space holds before is a part of this. */
 static uint8_t known_bytes[SPACE_ROOM + 256];
-
-static void require(int holds, const char *what) {
-    if (!holds) {
-        fprintf(stderr, "fuzz_report: %s\n", what);
-        abort();
-    }
-}
-
-/* Maps the file, or fresh memory for none, between two pages that may not be touched. */
-static uint8_t *between_guards(int file, size_t size, int rights) {
-    uint8_t *all = mmap(NULL, size + 2 * PAGE, PROT_NONE, MAP_PRIVATE | MAP_ANONYMOUS, -1, 0);
-    require(all != MAP_FAILED, "no memory");
-    int flags = file < 0 ? MAP_PRIVATE | MAP_ANONYMOUS | MAP_FIXED : MAP_SHARED | MAP_FIXED;
-    uint8_t *room = mmap(all + PAGE, size, rights, flags, file, 0);
-    require(room == all + PAGE, "no memory at its place");
-    return room;
-}
 
 int LLVMFuzzerInitialize(int *count, char ***words) {
     (void)count;
     (void)words;
-    int file = memfd_create("sheet", 0);
-    require(file >= 0 && ftruncate(file, SHEET_ROOM) == 0, "no memory for a sheet");
-    sheet_room = between_guards(file, SHEET_ROOM, PROT_READ);
-    sheet_copy = between_guards(file, SHEET_ROOM, PROT_READ | PROT_WRITE);
+    sheet_room = read_only_room(SHEET_ROOM);
     space_room = between_guards(-1, SPACE_ROOM, PROT_READ | PROT_WRITE);
     require(wiltoresh_longest() <= SPACE_ROOM, "the longest report has no room");
-    for (size_t at = 0; at < sizeof known_bytes; at++) {
-        known_bytes[at] = (uint8_t)(at * 0x9e3779b97f4a7c15u >> 56);
-    }
+    fill_known(known_bytes, sizeof known_bytes);
     return 0;
 }
 
 /* What the fuzzer seeks more of, beside the branches of the plain implementation: answers and shapes of lines. */
-enum { KINDS = 8, FIELDS = 10, LENGTHS = 24, BUCKETS = 8, NUMBERS = 17 };
+enum { FIELDS = 10, LENGTHS = 24 };
 __attribute__((section("__libfuzzer_extra_counters"))) static uint8_t answers[NUMBERS][BUCKETS][KINDS];
 __attribute__((section("__libfuzzer_extra_counters"))) static uint8_t shapes[KINDS][FIELDS][LENGTHS];
-
-static size_t kind_of(uint8_t letter) {
-    const char *letters = "PSHWEBG";
-    const char *found = letter ? strchr(letters, letter) : NULL;
-    return found ? (size_t)(found - letters) : KINDS - 1;
-}
-
-static size_t at_most(size_t number, size_t most) { return number < most ? number : most; }
-
-/* 0 to 3 as they are, then a bucket up to 15, 63, 255 and above. */
-static size_t bucket_of(size_t line) {
-    size_t bucket = at_most(line, 3);
-    for (size_t limit = 4; limit <= line && bucket < BUCKETS - 1; limit *= 4) {
-        bucket++;
-    }
-    return bucket;
-}
 
 /* Counts the length of each field by kind and place, up to and with the line that the answer names. */
 static void count_shapes(const uint8_t *sheet, size_t size, size_t last) {
@@ -151,14 +103,6 @@ static Answer judge(const uint8_t *sheet, size_t size, size_t length, int at_end
     return had;
 }
 
-static uint64_t hash(const uint8_t *bytes, size_t size) {
-    uint64_t mixed = 0xcbf29ce484222325u;
-    for (size_t at = 0; at < size; at++) {
-        mixed = (mixed ^ bytes[at]) * 0x100000001b3u;
-    }
-    return mixed ^ mixed >> 29;
-}
-
 /* Just enough for the report, one byte less, none, or any length, by the hash. */
 static size_t space_length(size_t report, uint64_t seed) {
     switch (seed % 8) {
@@ -179,15 +123,14 @@ int LLVMFuzzerTestOneInput(const uint8_t *bytes, size_t size) {
         return -1;
     }
     uint64_t seed = hash(bytes, size);
-    memcpy(sheet_copy, bytes, size);
-    Answer first = judge(sheet_room, size, wiltoresh_longest(), 0, seed);
+    const uint8_t *sheet = lend(sheet_room, bytes, size, 0);
+    Answer first = judge(sheet, size, wiltoresh_longest(), 0, seed);
     require(first.number != 16, "a report longer than the longest");
-    require(memcmp(sheet_room, bytes, size) == 0, "the sheet is changed");
-    count(sheet_room, size, first);
-    size_t place = SHEET_ROOM - size;
-    memcpy(sheet_copy + place, bytes, size);
-    judge(sheet_room + place, size, space_length(first.length, seed), 1, seed);
-    check_line(sheet_room + place, size, seed % 9);
-    check_line(sheet_room + place, size, SIZE_MAX - seed % 2);
+    require(memcmp(sheet, bytes, size) == 0, "the sheet is changed");
+    count(sheet, size, first);
+    sheet = lend(sheet_room, bytes, size, 1);
+    judge(sheet, size, space_length(first.length, seed), 1, seed);
+    check_line(sheet, size, seed % 9);
+    check_line(sheet, size, SIZE_MAX - seed % 2);
     return 0;
 }

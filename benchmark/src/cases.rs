@@ -5,32 +5,46 @@ use std::io::Write;
 use reference::samples::{Dice, KILOS, Size, full_sheet};
 use reference::sheet::{MOST_BYTES, MOST_LINES};
 
+use crate::SPACE;
+
 const SEED: u64 = 65_536;
 
-/// A sheet, what is told of it, and the number and line it is answered with.
-pub struct Case {
+/// What is given, what is told of it, and the number and line it is answered
+/// with.
+pub struct Case<G> {
     /// One word, by which `one_case` takes it.
     pub name: String,
     pub told: String,
-    pub sheet: Vec<u8>,
+    /// A sheet, or the words of its records.
+    pub given: Vec<G>,
+    /// Bytes of the sheet.
+    pub bytes: usize,
+    /// How many bytes or numbers are lent.
+    pub lent: usize,
     pub number: u64,
     pub line: usize,
 }
 
-impl Case {
-    fn accepted(name: &str, told: &str, sheet: Vec<u8>) -> Case {
+impl Case<u8> {
+    fn accepted(name: &str, told: &str, sheet: Vec<u8>) -> Case<u8> {
+        Case::refused(name, told, sheet, 0, 0)
+    }
+
+    fn refused(name: &str, told: &str, sheet: Vec<u8>, number: u64, line: usize) -> Case<u8> {
         Case {
             name: name.into(),
             told: told.into(),
-            sheet,
-            number: 0,
-            line: 0,
+            bytes: sheet.len(),
+            given: sheet,
+            lent: SPACE,
+            number,
+            line,
         }
     }
 }
 
 /// All cases but those of growth.
-pub fn cases() -> Vec<Case> {
+pub fn cases() -> Vec<Case<u8>> {
     vec![
         Case::accepted("full", "full sheet of mixed lines", mixed(MOST_BYTES)),
         Case::accepted("short", "4,096 short lines", short_lines()),
@@ -43,7 +57,7 @@ pub fn cases() -> Vec<Case> {
 }
 
 /// Sheets of mixed lines, 1 to 64 KiB.
-pub fn growth() -> Vec<Case> {
+pub fn growth() -> Vec<Case<u8>> {
     (0..7)
         .map(|doubled| {
             let kib = 1 << doubled;
@@ -57,16 +71,16 @@ pub fn growth() -> Vec<Case> {
         .collect()
 }
 
-const EXAMPLE: &str = "P,1,1000\nP,2,400\nS,1,1,16,1000,-,-,10000,0\nH,1,2,10000,56100\n\
+pub const EXAMPLE: &str = "P,1,1000\nP,2,400\nS,1,1,16,1000,-,-,10000,0\nH,1,2,10000,56100\n\
 E,0,2,500,400000\nB,2,100,1900000,250000\nG,1,2,300\n";
 
 /// A sheet of 16 processes and mixed lines, of exactly so many bytes.
-fn mixed(length: usize) -> Vec<u8> {
+pub fn mixed(length: usize) -> Vec<u8> {
     full_sheet(&mut Dice::new(SEED), 16, Size::Mixed, length)
 }
 
 /// As many lines as a sheet may have, each of 6 to 10 bytes.
-fn short_lines() -> Vec<u8> {
+pub fn short_lines() -> Vec<u8> {
     let lines = ["H,0,1,9,7", "W,1,0,9", "E,0,1,9,7", "B,1,9,7,5", "W,0,1,9"];
     let mut sheet = b"P,1,9\n".to_vec();
     for line in lines.iter().cycle().take(MOST_LINES as usize - 1) {
@@ -101,29 +115,23 @@ fn all_pairs() -> Vec<u8> {
 }
 
 /// A full sheet whose last line has two equal ends.
-fn refused_last() -> Case {
+pub fn refused_last() -> Case<u8> {
     let last = "W,1,1,999\n";
     let mut sheet = mixed(MOST_BYTES - last.len());
     sheet.extend(last.bytes());
     let line = sheet.iter().filter(|byte| **byte == b'\n').count();
-    Case {
-        name: "refused-last".into(),
-        told: "full sheet, last line refused".into(),
+    Case::refused(
+        "refused-last",
+        "full sheet, last line refused",
         sheet,
-        number: 10,
+        10,
         line,
-    }
+    )
 }
 
 /// A full sheet whose first line is of no kind.
-fn refused_first() -> Case {
+fn refused_first() -> Case<u8> {
     let mut sheet = mixed(MOST_BYTES);
     sheet[0] = b'Q';
-    Case {
-        name: "refused-first".into(),
-        told: "full sheet, line 1 refused".into(),
-        sheet,
-        number: 4,
-        line: 1,
-    }
+    Case::refused("refused-first", "full sheet, line 1 refused", sheet, 4, 1)
 }

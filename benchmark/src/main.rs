@@ -1,64 +1,82 @@
 //! Prints how long all implementations take, and how much stack.
 
 use benchmark::cases::{Case, cases, growth};
+use benchmark::record_cases::{read, written};
 use benchmark::stack::depth;
 use benchmark::timing::{ROUNDS, time};
-use benchmark::{plain, proved};
+use benchmark::{Implementation, READ, REPORT, WRITE};
+
+const NAMES: [&str; 3] = ["proved", "plain", "walk"];
 
 fn main() {
     println!("Time of a report, all implementations in turn, medians of {ROUNDS} rounds.");
     println!("\"plain\" divides in 128 bits; \"walk\" is plain Rust with the walk of \"proved\".");
     println!("The last two columns are proved / plain and proved / walk.");
+    table("case", &cases(), REPORT);
+    table("growth", &growth(), REPORT);
     println!();
-    table(&cases());
+    println!("The same for records, written and read; a byte is one of their sheet.");
+    table("written", &written(), WRITE);
+    table("read", &read(), READ);
     println!();
-    println!("Growth:");
-    println!();
-    table(&growth());
-    println!();
-    stack();
+    stack("a report", &cases(), REPORT);
+    stack("writing records", &written(), WRITE);
+    stack("reading records", &read(), READ);
+    println!("Measured on a thread whose stack held a known value in every byte: from the");
+    println!("caller's frame down to the lowest byte that was written, the most of all cases");
+    println!("but those of growth.");
 }
 
-fn table(cases: &[Case]) {
+fn table<G: Copy, L: Copy + From<u8> + PartialEq, const N: usize>(
+    title: &str,
+    cases: &[Case<G>],
+    all: [Implementation<G, L>; N],
+) {
+    let names = &NAMES[..N];
+    println!();
     println!(
-        "{:<30} {:>6} {:>9} {:>9} {:>9} {:>8} {:>8} {:>8} {:>6} {:>6}",
-        "", "", "proved", "plain", "walk", "proved", "plain", "walk", "to", "to"
+        "{:<30} {:>6}{}{}{}",
+        "",
+        "",
+        columns(names, |name| format!("{name:>10}")),
+        columns(names, |name| format!("{name:>9}")),
+        columns(&names[1..], |_| format!("{:>7}", "to"))
     );
     println!(
-        "{:<30} {:>6} {:>9} {:>9} {:>9} {:>8} {:>8} {:>8} {:>6} {:>6}",
-        "case", "bytes", "ns", "ns", "ns", "ns/byte", "ns/byte", "ns/byte", "plain", "walk"
+        "{title:<30} {:>6}{}{}{}",
+        "bytes",
+        columns(names, |_| format!("{:>10}", "ns")),
+        columns(names, |_| format!("{:>9}", "ns/byte")),
+        columns(&names[1..], |name| format!("{name:>7}"))
     );
     for case in cases {
-        let times = time(case);
-        let bytes = case.sheet.len();
+        let times = time(case, all);
+        let bytes = case.bytes as f64;
         println!(
-            "{:<30} {:>6} {:>9.0} {:>9.0} {:>9.0} {:>8.4} {:>8.4} {:>8.4} {:>6.2} {:>6.2}",
+            "{:<30} {:>6}{}{}{}",
             case.told,
-            bytes,
-            times.proved,
-            times.plain,
-            times.plain_walk,
-            times.proved / bytes as f64,
-            times.plain / bytes as f64,
-            times.plain_walk / bytes as f64,
-            times.to_plain,
-            times.to_plain_walk
+            case.bytes,
+            columns(&times.each, |time| format!("{time:>10.0}")),
+            columns(&times.each, |time| format!("{:>9.4}", time / bytes)),
+            columns(&times.ratios[1..], |ratio| format!("{ratio:>7.2}"))
         );
     }
 }
 
-fn stack() {
+fn columns<T>(of: &[T], column: impl Fn(&T) -> String) -> String {
+    of.iter().map(column).collect()
+}
+
+/// Prints the stack of the proved library and of plain Rust.
+fn stack<G, L: Copy + From<u8>, const N: usize>(
+    job: &str,
+    cases: &[Case<G>],
+    all: [Implementation<G, L>; N],
+) {
     let deepest = |implementation| {
-        let depths = cases()
-            .into_iter()
-            .map(|case| depth(implementation, &case.sheet));
+        let depths = cases.iter().map(|case| depth(implementation, case));
         depths.max().unwrap_or(0)
     };
-    println!(
-        "Stack of a report: proved {} bytes, plain {} bytes.",
-        deepest(proved),
-        deepest(plain)
-    );
-    println!("Measured on a thread whose stack held a known value in every byte: from the");
-    println!("caller's frame down to the lowest byte that was written, the most of seven cases.");
+    let (proved, plain) = (deepest(all[0]), deepest(all[1]));
+    println!("Stack of {job}: proved {proved} bytes, plain {plain} bytes.");
 }

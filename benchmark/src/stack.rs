@@ -1,4 +1,4 @@
-//! The stack that a report takes. A thread is started on memory of our own,
+//! The stack that a job takes. A thread is started on memory of our own,
 //! every byte of which holds a known value; the lowest byte that has another
 //! value afterwards is the depth reached. This is done with two values, as a
 //! byte written may equal one of them.
@@ -6,7 +6,8 @@
 use std::ffi::c_void;
 use std::hint::black_box;
 
-use crate::{Implementation, SPACE};
+use crate::Implementation;
+use crate::cases::Case;
 
 const STACK: usize = 1 << 20;
 const PAGE: usize = 4_096;
@@ -30,37 +31,41 @@ unsafe extern "C" {
 }
 
 /// What the thread is given, and the address of a byte in its own frame.
-struct Work<'a> {
-    implementation: Implementation,
-    sheet: &'a [u8],
-    space: &'a mut [u8],
+struct Work<'a, G, L> {
+    implementation: Implementation<G, L>,
+    given: &'a [G],
+    lent: &'a mut [L],
     frame: usize,
 }
 
-extern "C" fn work(given: *mut c_void) -> *mut c_void {
+extern "C" fn work<G, L>(given: *mut c_void) -> *mut c_void {
     // The starter lends it until it has joined this thread.
-    let work = unsafe { &mut *given.cast::<Work>() };
+    let work = unsafe { &mut *given.cast::<Work<G, L>>() };
     let here = 0u8;
     work.frame = black_box(&raw const here).addr();
-    black_box((work.implementation)(work.sheet, work.space));
+    black_box((work.implementation)(work.given, work.lent));
     std::ptr::null_mut()
 }
 
 /// Bytes of stack from the frame of the caller down to the lowest byte that
-/// a report of the sheet writes.
-pub fn depth(implementation: Implementation, sheet: &[u8]) -> usize {
-    let depths = [0x5a, 0xa5].map(|value| depth_over(value, implementation, sheet));
+/// the case writes.
+pub fn depth<G, L: Copy + From<u8>>(implementation: Implementation<G, L>, case: &Case<G>) -> usize {
+    let depths = [0x5a, 0xa5].map(|value| depth_over(value, implementation, case));
     depths[0].max(depths[1])
 }
 
-fn depth_over(value: u8, implementation: Implementation, sheet: &[u8]) -> usize {
+fn depth_over<G, L: Copy + From<u8>>(
+    value: u8,
+    implementation: Implementation<G, L>,
+    case: &Case<G>,
+) -> usize {
     let mut memory = vec![value; STACK + PAGE];
     let skipped = memory.as_ptr().align_offset(PAGE);
     let stack = &mut memory[skipped..skipped + STACK];
     let mut work = Work {
         implementation,
-        sheet,
-        space: &mut [0; SPACE],
+        given: &case.given,
+        lent: &mut vec![L::from(0); case.lent],
         frame: 0,
     };
     run_on(stack, &mut work);
@@ -72,7 +77,7 @@ fn depth_over(value: u8, implementation: Implementation, sheet: &[u8]) -> usize 
 }
 
 /// Runs the work on the given stack, to its end.
-fn run_on(stack: &mut [u8], given: &mut Work) {
+fn run_on<G, L>(stack: &mut [u8], given: &mut Work<G, L>) {
     let mut attributes = Attributes([0; 128]);
     let mut thread = 0;
     let mut result = std::ptr::null_mut();
@@ -85,7 +90,10 @@ fn run_on(stack: &mut [u8], given: &mut Work) {
             0
         );
         let given = (&raw mut *given).cast();
-        assert_eq!(pthread_create(&mut thread, &attributes, work, given), 0);
+        assert_eq!(
+            pthread_create(&mut thread, &attributes, work::<G, L>, given),
+            0
+        );
         assert_eq!(pthread_join(thread, &mut result), 0);
         pthread_attr_destroy(&mut attributes);
     }

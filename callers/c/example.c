@@ -1,6 +1,7 @@
 /*
  * Prints the report of a sheet: example SHEET. For a refused sheet it prints the refusal's number and line on standard
- * error, and the text of that line; the exit status is then 1. It is 2 where there is no answer.
+ * error, and the text of that line; the exit status is then 1. It is 2 where there is no answer. It links libwiltoresh.a
+ * alone.
  */
 #include <stdio.h>
 #include <stdlib.h>

@@ -50,7 +50,8 @@ fn differ(length: usize, what: &str, proved: Answer, plain: Answer) -> Result<u6
     )))
 }
 
-fn first_difference(one: &[u8], other: &[u8]) -> usize {
+/// How many elements at the start are the same.
+pub fn first_difference<T: PartialEq>(one: &[T], other: &[T]) -> usize {
     let pairs = one.iter().zip(other);
     pairs.take_while(|(one, other)| one == other).count()
 }
@@ -81,7 +82,7 @@ fn space_length(sheet: &[u8], dice: &mut Dice) -> usize {
     }
 }
 
-fn known_bytes(dice: &mut Dice, length: usize) -> Vec<u8> {
+pub fn known_bytes(dice: &mut Dice, length: usize) -> Vec<u8> {
     let words = (0..length.div_ceil(8)).flat_map(|_| dice.roll().to_le_bytes());
     words.take(length).collect()
 }

@@ -4,36 +4,56 @@
 use std::env::args;
 use std::process::exit;
 
-use benchmark::cases::{cases, growth};
+use benchmark::cases::{Case, cases, growth};
+use benchmark::record_cases::{read, written};
 use benchmark::timing::run;
-use benchmark::{Implementation, plain, plain_walk, proved};
+use benchmark::{Implementation, READ, REPORT, WRITE};
+
+const NAMES: [&str; 3] = ["proved", "plain", "walk"];
 
 fn main() {
     let given: Vec<String> = args().skip(1).collect();
     let [which, name, times] = &given[..] else {
         usage();
     };
-    let implementation: Implementation = match which.as_str() {
-        "proved" => proved,
-        "plain" => plain,
-        "walk" => plain_walk,
-        _ => usage(),
-    };
-    let mut all = cases().into_iter().chain(growth());
-    let (Some(case), Ok(times)) = (all.find(|case| case.name == *name), times.parse()) else {
+    let which = NAMES.iter().position(|name| name == which);
+    let (Some(which), Ok(times)) = (which, times.parse()) else {
         usage();
     };
-    run(implementation, &case.sheet, times);
-    println!("{}", case.sheet.len());
+    let bytes = run_named(reports(), &REPORT, name, which, times)
+        .or_else(|| run_named(written(), &WRITE, name, which, times))
+        .or_else(|| run_named(read(), &READ, name, which, times));
+    match bytes {
+        Some(bytes) => println!("{bytes}"),
+        None => usage(),
+    }
+}
+
+fn reports() -> Vec<Case<u8>> {
+    cases().into_iter().chain(growth()).collect()
+}
+
+/// Runs the case of this name by one implementation, if there are both, and
+/// gives the bytes of its sheet.
+fn run_named<G, L: Copy + From<u8>>(
+    cases: Vec<Case<G>>,
+    all: &[Implementation<G, L>],
+    name: &str,
+    which: usize,
+    times: u32,
+) -> Option<usize> {
+    let case = cases.into_iter().find(|case| case.name == name)?;
+    let mut lent = vec![L::from(0); case.lent];
+    run(*all.get(which)?, &case.given, &mut lent, times);
+    Some(case.bytes)
 }
 
 fn usage() -> ! {
-    let names: Vec<String> = cases()
-        .into_iter()
-        .chain(growth())
-        .map(|case| case.name)
-        .collect();
+    let mut names: Vec<String> = reports().into_iter().map(|case| case.name).collect();
+    names.extend(written().into_iter().map(|case| case.name));
+    names.extend(read().into_iter().map(|case| case.name));
     eprintln!("usage: one_case proved|plain|walk CASE TIMES");
     eprintln!("cases: {}", names.join(" "));
+    eprintln!("Cases of records have no walk.");
     exit(2)
 }

@@ -14,29 +14,51 @@
 //! # );
 //! ```
 //!
-//! [`report_into`] does it in a space that the caller lends, without allocating. The functions that they call are proved:
-//! outcome, line number, report length and every byte of the space follow by equation from sheet and space. They keep no
-//! state and are safe from several threads at once.
+//! [`report_into`] does it in a space that the caller lends, without allocating.
+//!
+//! A works' own systems have records and no text. [`write()`] writes the sheet of [`Record`]s, and [`read()`] reads the
+//! records of a sheet; [`write_into`] and [`read_into`] do so in a space and a list that the caller lends.
+//!
+//! ```
+//! use wiltoresh::Record;
+//!
+//! let records = [
+//!     Record::Process { number: 1, output: 5 },
+//!     Record::Electricity { from: 1, to: 0, kilowatt_hours: 1, factor: 1000 },
+//! ];
+//! let sheet = wiltoresh::write(&records)?;
+//! assert_eq!(sheet, b"P,1,5\nE,1,0,1,1000\n");
+//! assert_eq!(wiltoresh::read(b"P,1,5\nE,1,0,1,1000\n")?, records);
+//! # Ok::<(), wiltoresh::Refusal>(())
+//! ```
+//!
+//! The functions that all of these call are proved: outcome, line number, length or count, and every byte of the space or
+//! number of the list follow by equation from what is given and lent. They keep no state and are safe from several
+//! threads at once.
 
 #![warn(missing_docs)]
 
 mod ffi;
+mod record;
+mod records;
 mod refusal;
 mod report;
 
 use std::ops::Range;
 
+pub use record::{Record, RECORD_WORDS, STANDARD};
+pub use records::{read, read_into, write, write_into, Counted};
 pub use refusal::{meaning, Refusal};
 pub use report::Report;
 
-/// The answer to a sheet and a lent space, as [`report_into`] gives it.
+/// The answer to a sheet or to records, and a lent space, as [`report_into`] and [`write_into`] give it.
 #[derive(Clone, Copy, Debug, PartialEq, Eq, Hash)]
 pub struct Answer {
     /// 0 for an accepted sheet, or else the refusal's number, 1 to 16.
     pub number: u64,
     /// The number of the offending line, the first being 1; 0 for a refusal of the whole sheet and for an accepted one.
     pub line: usize,
-    /// The report's length; 0 for a refusal.
+    /// The length of the report, or of the sheet that was written; 0 for a refusal.
     pub length: usize,
 }
 
@@ -123,7 +145,7 @@ pub fn line_place(sheet: &[u8], line: usize) -> Range<usize> {
     start..start + length
 }
 
-/// No report has more bytes, and a space of so many bytes is never refused by 16.
+/// No report has more bytes: [`report_into`] never refuses a space of so many bytes by 16.
 ///
 /// ```
 /// let mut space = vec![0; wiltoresh::longest()];

@@ -1,11 +1,12 @@
-//! A sheet sent back.
+//! A sheet, or records, sent back.
 
 use std::error::Error;
 use std::fmt;
 
 /// A refusal: its number, the offending line's number and that line as a part of the sheet.
 ///
-/// It borrows from the sheet. Where an error must outlive the sheet, take its message: `refusal.to_string()`.
+/// It borrows from the sheet. Where an error must outlive the sheet, take its message: `refusal.to_string()`. A refusal
+/// of records, as [`write`](crate::write()) gives it, has no text and borrows nothing.
 ///
 /// ```
 /// let refusal = wiltoresh::report(b"P,1,5\nP,2,5\nG,1,2,6\n").unwrap_err();
@@ -31,12 +32,12 @@ impl<'a> Refusal<'a> {
         self.number
     }
 
-    /// The number of the offending line, the first being 1; 0 for a refusal of the whole sheet.
+    /// The number of the offending line or record, the first being 1; 0 for a refusal of the whole sheet.
     pub fn line(&self) -> usize {
         self.line
     }
 
-    /// The offending line, without its LF; empty for line 0.
+    /// The offending line, without its LF; empty for line 0, and for a refusal of records.
     pub fn text(&self) -> &'a [u8] {
         self.text
     }
@@ -80,7 +81,7 @@ pub fn meaning(number: u64) -> Option<&'static str> {
         13 => "output exceeded",
         14 => "empty sheet",
         15 => "a whole-gram figure of the report, its sign aside, is 2^63 or more",
-        16 => "report space too short",
+        16 => "space or list too short",
         _ => return None,
     })
 }
