@@ -6,6 +6,7 @@ from concurrent.futures import ThreadPoolExecutor
 from dataclasses import fields, replace
 from pathlib import Path
 
+from test_wiltoresh import REFUSED
 from wiltoresh import (
     RECORD_WORDS,
     STANDARD,
@@ -98,24 +99,6 @@ REFUSED_WORDS = [
     (14, 0, array("Q")),
 ]
 
-# Number, line, the line's text and the sheet.
-REFUSED_SHEETS = [
-    (1, 0, b"", b"P,1,5\n" * 10923),
-    (2, 4097, b"W,0,1,1", b"P,1,5\n" + b"W,0,1,1\n" * 4096),
-    (3, 1, b"P,1,5", b"P,1,5"),
-    (4, 1, b"", b"\n"),
-    (5, 1, b"P,1", b"P,1\n"),
-    (6, 1, b"P,1,05", b"P,1,05\n"),
-    (7, 1, b"P,1,0", b"P,1,0\n"),
-    (8, 1, b"P,2,5", b"P,2,5\n"),
-    (9, 2, b"W,1,2,9", b"P,1,5\nW,1,2,9\n"),
-    (10, 2, b"W,1,1,9", b"P,1,5\nW,1,1,9\n"),
-    (11, 2, b"S,1,1,0,1,-,1,1,0", b"P,1,5\nS,1,1,0,1,-,1,1,0\n"),
-    (12, 4, b"G,1,2,1", b"P,1,5\nP,2,5\nG,1,2,1\nG,1,2,1\n"),
-    (13, 3, b"G,1,2,6", b"P,1,5\nP,2,5\nG,1,2,6\n"),
-    (14, 0, b"", b""),
-]
-
 
 def patterned(length: int) -> bytearray:
     """A space in which no two neighbours are the same, and where no byte is one of a sheet."""
@@ -167,7 +150,7 @@ class Records(unittest.TestCase):
         self.assertEqual(str(raised.exception), message)
 
     def test_refused_sheets(self) -> None:
-        for number, line, text, sheet in REFUSED_SHEETS:
+        for number, line, text, sheet in REFUSED:
             for judged in (read, report):
                 with self.subTest(number=number), self.assertRaises(Refusal) as raised:
                     judged(sheet)
@@ -311,7 +294,7 @@ class Lent(unittest.TestCase):
             self.assertEqual(lent, expected + numbers(len(lent))[len(expected) :])
 
     def test_refused_sheets_leave_the_list(self) -> None:
-        for number, line, _, sheet in REFUSED_SHEETS:
+        for number, line, _, sheet in REFUSED:
             for length in (0, 8, 36864):
                 with self.subTest(number=number, length=length):
                     lent = numbers(length)
