@@ -1,5 +1,5 @@
 -- What the reader gives, from what the code finds: refused, too short, or put. Assumes nothing.
-use mathlib.Core.Path.{_≡_, sym}
+use mathlib.Core.Path.{_≡_, sym, _∙_}
 use mathlib.Core.List.{List}
 use Prim.Native.Nat.{ℕ, _*_, _≤_, _<_}
 use native.Mathlib.Omega.{arith}
@@ -16,10 +16,9 @@ use Rattle.record_exchange.proofs.RoundTrip.{words-long, read-accepted, read-sh
 use Rattle.record_exchange.proofs.Judged.{judged-refused, judged-accepted}
 
 module _ (sheet : List ℕ) (j : Judged) (of : SheetJudged sheet j) where
-  pub refused-given : (list : List ℕ) → (refusalNumber (j .refusal) ≡ 0 → ⊥)
-      → record { number = refusalNumber (j .refusal); line = j .line; length = 0; space = list } ≡ recordsRead sheet list
-  refused-given list some =
-      sym (read-refused sheet list (refusalNumber (j .refusal)) (j .line) (judged-refused sheet _ _ (of .number) (of .line) some))
+  pub refused-given : (list : List ℕ) {n : ℕ} → n ≡ refusalNumber (j .refusal) → (n ≡ 0 → ⊥)
+      → record { number = n; line = j .line; length = 0; space = list } ≡ recordsRead sheet list
+  refused-given list is some = sym (read-refused sheet list _ (j .line) (judged-refused sheet _ _ (is ∙ of .number) (of .line) some))
 
   module _ (zero : refusalNumber (j .refusal) ≡ 0) where
     -- nine words a line

@@ -1,5 +1,5 @@
 -- What the writer gives, from what the code finds: refused, too short, or put. Assumes nothing.
-use mathlib.Core.Path.{_≡_, sym}
+use mathlib.Core.Path.{_≡_, sym, _∙_}
 use mathlib.Core.List.{List}
 use Prim.Native.Nat.{ℕ, _≤_, _<_}
 use native.Mathlib.Omega.{arith}
@@ -15,10 +15,10 @@ use Rattle.record_exchange.proofs.RoundTrip.{written-accepted, written-short, w
 use Rattle.record_exchange.proofs.Judged.{judged-refused, judged-accepted}
 
 module _ (words : List ℕ) (j : Judged) (of : SheetJudged (sheetLent words) j) where
-  pub refused-given : (space : List ℕ) → (refusalNumber (j .refusal) ≡ 0 → ⊥)
-      → record { number = refusalNumber (j .refusal); line = j .line; length = 0; space = space } ≡ sheetWritten words space
-  refused-given space some =
-      sym (written-refused words space (refusalNumber (j .refusal)) (j .line) (judged-refused (sheetLent words) _ _ (of .number) (of .line) some))
+  pub refused-given : (space : List ℕ) {n : ℕ} → n ≡ refusalNumber (j .refusal) → (n ≡ 0 → ⊥)
+      → record { number = n; line = j .line; length = 0; space = space } ≡ sheetWritten words space
+  refused-given space is some =
+      sym (written-refused words space _ (j .line) (judged-refused (sheetLent words) _ _ (is ∙ of .number) (of .line) some))
 
   module _ (zero : refusalNumber (j .refusal) ≡ 0) where
     pub short-given : (space : List ℕ) → length space < j .length → record { number = 16; line = 0; length = 0; space = space } ≡ sheetWritten words space

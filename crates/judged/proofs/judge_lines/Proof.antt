@@ -68,7 +68,7 @@ module _ (c : tie.After-refusal-number Inv-loop μ-loop) where
   judged = c .refusal-number .ensures ∙ c .before .line-refusal .ensures
 
 add-refused : tie.Need-add-refused Inv-loop μ-loop
-add-refused c = record { fits = next-fits (found (c .before)) }
+add-refused c = record { fits = omega (arith, next-fits (found (c .before))) }
 
 returns : tie.Need-returns Inv-loop μ-loop
 returns c =

@@ -7,9 +7,7 @@ use Rattle.sheet_writer.proofs.write.Statement.{statement}
 use Rattle.sheet_writer.proofs.write.Tie as tie
 
 returns : tie.Need-returns
-returns c =
-    let number = c .before .refusal-number .ensures in
-    rw number (refused-given _ _ (c .before .before .judge-records .ensures) _ (λ z. c .if1 .taken (number ∙ z)))
+returns c = refused-given _ _ (c .before .before .judge-records .ensures) _ (c .before .refusal-number .ensures) (c .if1 .taken)
 
 -- ---- no row refused the records
 
