@@ -1,5 +1,6 @@
 //! Carbon balance sheet of an installation, written from the scope paper
-//! (document 01) alone, for comparison with another implementation.
+//! (document 01) and tickets 1 and 2 of the later requests (document 02) alone,
+//! for comparison with another implementation.
 //!
 //! The data goes through the modules in this order: `sheet` parts the bytes
 //! into lines and fields, `refusals` judges each line, `reckoning` takes the

@@ -37,16 +37,30 @@ pub enum Stream {
     CarbonIn {
         kg: u64,
         carbon: u64,
+        biomass: u64,
     },
     CarbonOut {
         kg: u64,
         carbon: u64,
+        biomass: u64,
     },
 }
 
 impl Stream {
+    /// The grams that the balance counts, minus for carbon going out.
     #[inline]
     fn grams(self) -> i64 {
+        let (grams, biomass) = self.before_biomass();
+        let fossil = ten_thousandth(grams * (10_000 - biomass)) as i64;
+        match self {
+            Stream::CarbonOut { .. } => -fossil,
+            _ => fossil,
+        }
+    }
+
+    /// The grams before the biomass step, and the biomass share.
+    #[inline]
+    fn before_biomass(self) -> (u64, u64) {
         match self {
             Stream::Burning {
                 kg,
@@ -57,7 +71,7 @@ impl Stream {
             } => {
                 let heat = thousandth(kg * calorific_value);
                 let grams = thousandth(heat * factor);
-                fossil(ten_thousandth(grams * oxidation), biomass) as i64
+                (ten_thousandth(grams * oxidation), biomass)
             }
             Stream::ProcessEmission {
                 kg,
@@ -66,31 +80,33 @@ impl Stream {
                 biomass,
             } => {
                 let grams = thousandth(kg * factor);
-                fossil(ten_thousandth(grams * conversion), biomass) as i64
+                (ten_thousandth(grams * conversion), biomass)
             }
-            Stream::CarbonIn { kg, carbon } => dioxide(kg, carbon) as i64,
-            Stream::CarbonOut { kg, carbon } => -(dioxide(kg, carbon) as i64),
+            Stream::CarbonIn {
+                kg,
+                carbon,
+                biomass,
+            }
+            | Stream::CarbonOut {
+                kg,
+                carbon,
+                biomass,
+            } => {
+                let carbon_grams = thousandth(kg * carbon);
+                (thousandth(carbon_grams * DIOXIDE_OF_CARBON), biomass)
+            }
         }
     }
 }
 
-#[inline]
-fn fossil(grams: u64, biomass: u64) -> u64 {
-    ten_thousandth(grams * (10_000 - biomass))
-}
-
-#[inline]
-fn dioxide(kg: u64, carbon: u64) -> u64 {
-    thousandth(thousandth(kg * carbon) * DIOXIDE_OF_CARBON)
-}
-
-/// round(u/1,000). The largest u of all is 8 × 10^17 here.
+/// round(u/1,000). The largest u of all is 10^18 here, of a bought precursor.
 #[inline]
 pub fn thousandth(u: u64) -> u64 {
     (u + 500) / 1_000
 }
 
-/// round(u/10,000). The largest u of all is 8 × 10^18 here.
+/// round(u/10,000). The largest u of all is 8 × 10^18 here, of a burning stream;
+/// a carbon stream has at most 3.664 × 10^17.
 #[inline]
 pub fn ten_thousandth(u: u64) -> u64 {
     (u + 5_000) / 10_000

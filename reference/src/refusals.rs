@@ -247,12 +247,20 @@ fn judge_stream(field: &Fields, works: &Works) -> Result<Entry, Fault> {
             let carbon = number(field[4], CARBON)?;
             number(field[5], NOTHING)?;
             number(field[6], WHOLE)?;
-            number(field[7], SHARE)?;
+            let biomass = number(field[7], SHARE)?;
             known(works, process)?;
             if method == 3 {
-                Stream::CarbonIn { kg, carbon }
+                Stream::CarbonIn {
+                    kg,
+                    carbon,
+                    biomass,
+                }
             } else {
-                Stream::CarbonOut { kg, carbon }
+                Stream::CarbonOut {
+                    kg,
+                    carbon,
+                    biomass,
+                }
             }
         }
     };

@@ -141,6 +141,10 @@ impl Maker {
     }
 
     pub fn stream(&mut self, dice: &mut Dice) {
+        let method = dice.between(1, 4);
+        if method > 2 {
+            return self.carbon(dice, method);
+        }
         let n = self.process(dice);
         let kg = self.number(dice, 1, KILOS);
         let d = match dice.below(3) {
@@ -151,28 +155,41 @@ impl Maker {
             0 => self.number(dice, 0, 10_000),
             _ => 10_000,
         };
-        let method = dice.between(1, 4);
-        match method {
-            1 => {
-                let code = dice.between(0, 16);
-                let a = self.number(dice, 1, 200_000);
-                let b = self.number(dice, 0, 400_000);
-                let a = dash_or(dice, code, a);
-                let b = dash_or(dice, code, b);
-                writeln!(self.sheet, "S,{n},1,{code},{kg},{a},{b},{c},{d}")
-            }
-            2 => {
-                let code = dice.between(0, 9);
-                let a = self.number(dice, 0, 4_000_000);
-                let a = dash_or(dice, code, a);
-                writeln!(self.sheet, "S,{n},2,{code},{kg},{a},0,{c},{d}")
-            }
-            _ => {
-                let a = self.number(dice, 0, 1_000_000);
-                writeln!(self.sheet, "S,{n},{method},0,{kg},{a},0,10000,{d}")
-            }
+        if method == 1 {
+            let code = dice.between(0, 16);
+            let a = self.number(dice, 1, 200_000);
+            let b = self.number(dice, 0, 400_000);
+            let a = dash_or(dice, code, a);
+            let b = dash_or(dice, code, b);
+            writeln!(self.sheet, "S,{n},1,{code},{kg},{a},{b},{c},{d}")
+        } else {
+            let code = dice.between(0, 9);
+            let a = self.number(dice, 0, 4_000_000);
+            let a = dash_or(dice, code, a);
+            writeln!(self.sheet, "S,{n},2,{code},{kg},{a},0,{c},{d}")
         }
         .unwrap();
+    }
+
+    /// A stream of method 3 or 4. Half of them have a biomass share. One in
+    /// eight is of few grams, whatever the size; in about one in three of these
+    /// the last step has a half to round.
+    pub fn carbon(&mut self, dice: &mut Dice, method: u64) {
+        let n = self.process(dice);
+        let (kg, a, d) = if dice.once_in(8) {
+            let d = dice.pick(&[2_500, 5_000, 5_000, 7_500, 8_750]);
+            (dice.between(1, 20), 1_000 * dice.between(1, 20), d)
+        } else {
+            let kg = self.number(dice, 1, KILOS);
+            let a = self.number(dice, 0, 1_000_000);
+            let d = match dice.below(7) {
+                0..4 => 0,
+                4 | 5 => dice.pick(&[1, 5_000, 9_999, 10_000]),
+                _ => dice.between(1, 9_999),
+            };
+            (kg, a, d)
+        };
+        writeln!(self.sheet, "S,{n},{method},0,{kg},{a},0,10000,{d}").unwrap();
     }
 
     pub fn heat(&mut self, dice: &mut Dice) {

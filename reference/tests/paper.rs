@@ -1,7 +1,7 @@
 //! The paper's own example, its marked cases, its table of refusals, and near
 //! misses around every limit.
 
-use reference::reckoning::{ten_thousandth, thousandth};
+use reference::reckoning::{Account, ten_thousandth, thousandth};
 use reference::samples::{Dice, Maker, Size, full_sheet, mixed_sheet, pad};
 use reference::{Outcome, line_at, reckon, report, report_into};
 
@@ -47,7 +47,7 @@ fn marked_streams() {
         "R,1,3114400,0,0,3114400,0,3114400,0,3114.400,0.000\nT,3114400,3114400,0,0\n",
     );
     prints(
-        "P,1,1000\nS,1,4,0,1000,850000,0,10000,10000\n",
+        "P,1,1000\nS,1,4,0,1000,850000,0,10000,0\n",
         "R,1,0,0,3114400,0,0,0,0,0.000,0.000\nT,0,-3114400,3114400,0\n",
     );
 }
@@ -130,6 +130,182 @@ fn each_stage_is_rounded() {
         "P,1,1\nS,1,1,0,1,1500,750,7500,2500\n",
         "R,1,2,0,0,2,0,2,0,2.000,0.000\nT,2,2,0,0\n",
     );
+}
+
+const SHARES: [u64; 5] = [0, 1, 5_000, 9_999, 10_000];
+
+/// A carbon stream of method 3 and one of method 4, each alone on a sheet.
+#[track_caller]
+fn carbon_prints(kg: u64, a: u64, d: u64, grams: u64) {
+    prints(
+        &format!("P,1,1\nS,1,3,0,{kg},{a},0,10000,{d}\n"),
+        &format!("R,1,{grams},0,0,{grams},0,{grams},0,{grams}.000,0.000\nT,{grams},{grams},0,0\n"),
+    );
+    let sign = if grams == 0 { "" } else { "-" };
+    prints(
+        &format!("P,1,1\nS,1,4,0,{kg},{a},0,10000,{d}\n"),
+        &format!("R,1,0,0,{grams},0,0,0,0,0.000,0.000\nT,0,{sign}{grams},{grams},0\n"),
+    );
+}
+
+/// Ticket 2. Each row has kg, a, and the result for each of `SHARES`, g being
+/// the grams before the biomass step.
+#[test]
+fn charcoal() {
+    let rows = [
+        // T1 = 850,000; g = 3,114,400,000/1,000 = 3,114,400. d = 1: g × 9,999 is
+        // 31,140,885,600, with 5,000 more 3,114,089 whole parts; cut down it
+        // would be 3,114,088. d = 9,999: 3,114,400 + 5,000 is 311 whole parts.
+        (1_000, 850_000, [3_114_400, 3_114_089, 1_557_200, 311, 0]),
+        // T1 = 1; g = (3,664 + 500)/1,000 = 4. d = 5,000: 20,000/10,000 = 2. The
+        // share taken before 3,664 would give T1 = round(0.5) = 1 and so 4.
+        (1, 1_000, [4, 4, 2, 0, 0]),
+        // T1 = 10; g = (36,640 + 500)/1,000 = 37. d = 1: 369,963 + 5,000 is 37
+        // whole parts. d = 5,000: 185,000 + 5,000 is 19. It would be 18 cut down
+        // (18.5), with the half to the even number, with the share before 3,664
+        // (T1 = 5, 18,320), and rounded once at the end (36.64/2 = 18.32).
+        (10, 1_000, [37, 37, 19, 0, 0]),
+        // T1 = (1,500 + 500)/1,000 = 2; g = (7,328 + 500)/1,000 = 7. d = 5,000:
+        // 35,000 + 5,000 is 4. Rounded once at the end it would be 3, since
+        // 1.5 × 3.664/2 = 2.748.
+        (1, 1_500, [7, 7, 4, 0, 0]),
+        // T1 = 4,094; g = (15,000,416 + 500)/1,000 = 15,000. d = 1: 149,985,000 is
+        // 14,998.5 and so 14,999; with the share before 3,664 T1 stays
+        // round(4,093.59) = 4,094 and it would be 15,000. d = 9,999: 1.5 and so
+        // 2; with the share before 3,664 T1 = round(0.4094) = 0 and it would be 0.
+        (4_094, 1_000, [15_000, 14_999, 7_500, 2, 0]),
+        // T1 = 10^13; g = 3,664 × 10^10. A ten-thousandth of it is 3,664 × 10^6.
+        (
+            10_000_000_000,
+            1_000_000,
+            [
+                36_640_000_000_000,
+                36_636_336_000_000,
+                18_320_000_000_000,
+                3_664_000_000,
+                0,
+            ],
+        ),
+    ];
+    for (kg, a, results) in rows {
+        for (d, grams) in SHARES.into_iter().zip(results) {
+            carbon_prints(kg, a, d, grams);
+        }
+    }
+}
+
+/// Charcoal in and carbon out in the iron, in one process.
+#[test]
+fn charcoal_and_iron() {
+    // In: 3,114,400 × 0 = 0. Out: T1 = 40,000, g = 146,560, all of it fossil.
+    prints(
+        "P,1,1000\nS,1,3,0,1000,850000,0,10000,10000\nS,1,4,0,1000,40000,0,10000,0\n",
+        "R,1,0,0,146560,0,0,0,0,0.000,0.000\nT,0,-146560,146560,0\n",
+    );
+    // In: 3,114,400 × 1,000/10,000 = 311,440. Out: 146,560/2 = 73,280. With the
+    // share for method 3 only the balance would be 311,440 − 146,560 = 164,880.
+    prints(
+        "P,1,1000\nS,1,3,0,1000,850000,0,10000,9000\nS,1,4,0,1000,40000,0,10000,5000\n",
+        "R,1,238160,0,0,238160,0,238160,0,238.160,0.000\nT,238160,238160,0,0\n",
+    );
+    // 10 kg at d = 5,000 are 19 g (18.5), 5 kg at d = 0 are 18 g (18,320 + 500).
+    // Carbon going out is rounded before it is negated: −19, not −18.
+    prints(
+        "P,1,1\nS,1,3,0,10,1000,0,10000,5000\nS,1,4,0,5,1000,0,10000,0\n",
+        "R,1,1,0,0,1,0,1,0,1.000,0.000\nT,1,1,0,0\n",
+    );
+    prints(
+        "P,1,1\nS,1,3,0,5,1000,0,10000,0\nS,1,4,0,10,1000,0,10000,5000\n",
+        "R,1,0,0,1,0,0,0,0,0.000,0.000\nT,0,-1,1,0\n",
+    );
+}
+
+/// "Sheets with d = 0 keep their figures": those of document 01's own rule.
+#[test]
+fn no_biomass_as_before() {
+    prints(EXAMPLE, EXAMPLE_REPORT);
+    // T1 = 7 × 123,457/1,000 = 864.199 and so 864; 864 × 3.664 = 3,165.696.
+    carbon_prints(7, 123_457, 0, 3_166);
+    let mut dice = Dice::new(20);
+    for round in 0..3_000 {
+        let size = [Size::Small, Size::Mixed, Size::Highest][round % 3];
+        let kg = size.number(&mut dice, 1, 10_000_000_000);
+        let a = Size::Mixed.number(&mut dice, 0, 1_000_000);
+        let carbon = rounded(u128::from(kg * a), 1_000);
+        carbon_prints(kg, a, 0, rounded(carbon * 3_664, 1_000) as u64);
+    }
+}
+
+fn rounded(u: u128, v: u128) -> u128 {
+    (u + v / 2) / v
+}
+
+/// A carbon stream as ticket 2 has it.
+struct Carbon {
+    d: u64,
+    /// Ten-thousandths of a gram, before the last rounding.
+    parts: u128,
+    /// Its grams with their sign.
+    grams: i64,
+}
+
+impl Carbon {
+    fn of(line: &str) -> Carbon {
+        let field: Vec<&str> = line.split(',').collect();
+        let [kg, a, d] = [4, 5, 8].map(|place| field[place].parse::<u64>().unwrap());
+        let carbon = rounded(u128::from(kg) * u128::from(a), 1_000);
+        let parts = rounded(carbon * 3_664, 1_000) * u128::from(10_000 - d);
+        let grams = rounded(parts, 10_000) as i64;
+        let grams = if field[2] == "3" { grams } else { -grams };
+        Carbon { d, parts, grams }
+    }
+}
+
+/// A sheet of three processes and made carbon streams.
+fn carbon_maker(dice: &mut Dice, round: usize) -> (Maker, Vec<Carbon>) {
+    let size = [Size::Small, Size::Mixed, Size::Highest][round % 3];
+    let mut maker = Maker::new(dice, 3, size);
+    for _ in 0..dice.between(1, 9) {
+        let method = dice.between(3, 4);
+        maker.carbon(dice, method);
+    }
+    let lines = std::str::from_utf8(&maker.sheet).unwrap().lines();
+    let streams = lines.skip(3).map(Carbon::of).collect();
+    (maker, streams)
+}
+
+#[test]
+fn made_carbon_streams() {
+    let mut dice = Dice::new(21);
+    for round in 0..3_000 {
+        let (mut maker, streams) = carbon_maker(&mut dice, round);
+        let account = reckon(&maker.sheet).unwrap();
+        let entered: i64 = streams.iter().map(|stream| stream.grams).sum();
+        assert_eq!(account.entered, entered);
+        holds(&account);
+        for _ in 0..3 {
+            maker.good(&mut dice);
+        }
+        holds(&reckon(&maker.sheet).unwrap());
+    }
+}
+
+/// Half of the made carbon streams have a share, and many a half to round.
+#[test]
+fn made_biomass_shares() {
+    let mut dice = Dice::new(22);
+    let streams: Vec<Carbon> = (0..3_000)
+        .flat_map(|round| carbon_maker(&mut dice, round).1)
+        .collect();
+    let count = |what: &dyn Fn(&Carbon) -> bool| streams.iter().filter(|s| what(s)).count();
+    let all = streams.len();
+    let shared = count(&|stream| stream.d != 0);
+    assert!((all * 9 / 20..all * 11 / 20).contains(&shared));
+    for share in SHARES {
+        assert!(count(&|stream| stream.d == share) > all / 20);
+    }
+    let halves = count(&|stream| stream.parts % 10_000 == 5_000);
+    assert!(halves > all / 20, "{halves} of {all}");
 }
 
 #[test]
@@ -491,14 +667,17 @@ fn grams_neither_come_nor_go() {
         let processes = dice.between(1, 16) as usize;
         let lines = dice.index(40);
         let sheet = mixed_sheet(&mut dice, processes, lines, size);
-        let account = reckon(&sheet).unwrap();
-        assert_eq!(
-            i128::from(account.left),
-            i128::from(account.entered)
-                + i128::from(account.raised)
-                + i128::from(account.uncredited)
-        );
+        holds(&reckon(&sheet).unwrap());
     }
+}
+
+/// The sum over the works.
+#[track_caller]
+fn holds(account: &Account) {
+    assert_eq!(
+        i128::from(account.left),
+        i128::from(account.entered) + i128::from(account.raised) + i128::from(account.uncredited)
+    );
 }
 
 #[test]

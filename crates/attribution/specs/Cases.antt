@@ -2,7 +2,7 @@
 use mathlib.Core.List.{List, [], _∷_, _++_}
 use Prim.Native.Nat.{ℕ}
 use Prim.Native.String.{String}
-use lib.IntN.{ℤ, pos}
+use lib.IntN.{ℤ, pos, negsuc}
 use Rattle.decimal.specs.Text.{bytes}
 use Rattle.lines.specs.Records.{recordsOf}
 use Rattle.attribution.specs.Reckoning.{Reckoning, reckoning}
@@ -65,6 +65,12 @@ examples =
     -- carbon going out counts minus: 4 g out of 100
     ∷ gives "P,1,10\nS,1,2,0,1,100000,0,10000,0\nS,1,4,0,1,1000,0,10000,0\n"
     (96 ∷ 0 ∷ 0 ∷ 96 ∷ 0 ∷ 96 ∷ 0 ∷ 96 ∷ 0 ∷ 0 ∷ []) (pos 96)
+    -- ticket 2: coke of 11 g, charcoal that is all biomass, and 4 g out in the iron, half of them biomass: 11 + 0 − 2
+    ∷ gives "P,1,10\nS,1,3,0,3,1000,0,10000,0\nS,1,3,0,100,800000,0,10000,10000\nS,1,4,0,1,1000,0,10000,5000\n"
+    (9 ∷ 0 ∷ 0 ∷ 9 ∷ 0 ∷ 9 ∷ 0 ∷ 9 ∷ 0 ∷ 0 ∷ []) (pos 9)
+    -- charcoal alone, and 11 g out in the iron, half of them biomass: 5.5 rounded is 6, and the balance of −6 g is raised
+    ∷ gives "P,1,10\nS,1,3,0,100,800000,0,10000,10000\nS,1,4,0,3,1000,0,10000,5000\n"
+    (0 ∷ 0 ∷ 6 ∷ 0 ∷ 0 ∷ 0 ∷ 0 ∷ 0 ∷ 6 ∷ 0 ∷ []) (negsuc 5)
     -- pool 2,000, output 3, all of it taken: the portion is the pool; from the printed 666.666 g/kg it would be 1,999
     ∷ gives "P,1,3\nP,2,1\nS,1,2,0,1,2000000,0,10000,0\nG,1,2,3\n"
     (2000 ∷ 0 ∷ 0 ∷ 2000 ∷ 0 ∷ 0 ∷ 0

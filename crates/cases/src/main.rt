@@ -1,4 +1,4 @@
-// Sheets that another implementation of document 01 judged, kept as data: each is judged again, and number, line, length and every byte of
+// Sheets that another implementation judged, kept as data: each is judged again, and number, line, length and every byte of
 // a report space that was filled before are compared. Each is also read as records and written again: the same bytes, or the same refusal,
 // report space aside. A case is five numbers of eight digits (sheet length, space length, number, line,
 // report length), the sheet, and the report.

@@ -3,5 +3,6 @@ pub mod Cases
 pub mod Rounding
 pub mod Weights
 pub mod Methods
+pub mod FossilShare
 pub mod Tables
 pub mod Small

@@ -6,13 +6,13 @@ use native.Mathlib.Nat.{mul-le-mul, le-refl}
 use native.Mathlib.Omega.{arith}
 use borrow.Author.Tests.{eqb-true, eqb-false}
 use lib.Dec.{eqb}
-use lib.IntN.{pos, negℤ, natAbs}
+use lib.IntN.{natAbs}
 use Rattle.quantity.specs.Rounding.{round}
-use Rattle.quantity.specs.Streams.{fossilGrams, combustionGrams, processGrams, carbonGrams, streamGrams}
+use Rattle.quantity.specs.Streams.{combustionGrams, processGrams, carbonGrams, gramsBeforeBiomass, fossilGrams, streamGrams}
 use Rattle.quantity.specs.Weights.{weight, wasteGasCharge}
 use Rattle.quantity.specs.Ranges.{StreamRange}
 use Rattle.quantity.proofs.Rounding.{thousandths-near, tenThousandths-near}
-use Rattle.quantity.proofs.Methods.{minus-size}
+use Rattle.quantity.proofs.Methods.{counted-size}
 
 -- a quantity and a factor within bounds weigh no more than the bounds do
 rounded-le : (q f most-q most-f most : ℕ) → q ≤ most-q → f ≤ most-f → most-q * most-f ≤ most * 1000 → round (q * f) 1000 ≤ most
@@ -30,23 +30,23 @@ charge-small megajoules h = rounded-le megajoules 56100 1000000000000 56100 1000
 share-le : (grams share most : ℕ) → grams ≤ most → share ≤ 10000 → round (grams * share) 10000 ≤ most
 share-le grams share most h g = omega (arith, tenThousandths-near (grams * share), mul-le-mul h g)
 
-fossil-small : (grams c d most : ℕ) → grams ≤ most → c ≤ 10000 → fossilGrams grams c d ≤ most
+fossil-small : (grams d most : ℕ) → grams ≤ most → fossilGrams grams d ≤ most
 unfolding fossilGrams
-fossil-small grams c d most h g = share-le (round (grams * c) 10000) (10000 - d) most (share-le grams c most h g) (omega arith)
+fossil-small grams d most h = share-le grams (10000 - d) most h (omega arith)
 
 module _ (method kilos a b c d : ℕ) (range : StreamRange method kilos a b c d) where
-  combustion-small : method ≡ 1 → combustionGrams kilos a b c d ≤ 1000000000000000
+  combustion-small : method ≡ 1 → combustionGrams kilos a b c ≤ 1000000000000000
   unfolding combustionGrams
   combustion-small m =
       let T1 = rounded-le kilos a 10000000000 200000 2000000000000 (range .mass) (range .calorific m) (omega arith) in
       let T2 = rounded-le (round (kilos * a) 1000) b 2000000000000 400000 1000000000000000 T1 (range .factor m) (omega arith) in
-      fossil-small _ c d 1000000000000000 T2 (range .oxidation)
+      share-le _ c 1000000000000000 T2 (range .oxidation)
 
-  process-small : method ≡ 2 → processGrams kilos a c d ≤ 1000000000000000
+  process-small : method ≡ 2 → processGrams kilos a c ≤ 1000000000000000
   unfolding processGrams
   process-small m =
       let T1 = rounded-le kilos a 10000000000 4000000 1000000000000000 (range .mass) (range .process m) (omega arith) in
-      fossil-small _ c d 1000000000000000 T1 (range .oxidation)
+      share-le _ c 1000000000000000 T1 (range .oxidation)
 
   carbon-small : (method ≡ 1 → ⊥) → (method ≡ 2 → ⊥) → carbonGrams kilos a ≤ 1000000000000000
   unfolding carbonGrams
@@ -54,15 +54,16 @@ module _ (method kilos a b c d : ℕ) (range : StreamRange method kilos a b c d)
       let T1 = rounded-le kilos a 10000000000 1000000 10000000000000 (range .mass) (range .content m n) (omega arith) in
       rounded-le (round (kilos * a) 1000) 3664 10000000000000 3664 1000000000000000 T1 (le-refl 3664) (omega arith)
 
+  before-small : gramsBeforeBiomass method kilos a b c ≤ 1000000000000000
+  before-small = go (eqb method 1) refl (eqb method 2) refl
+    where
+      go : (i : Bool) → eqb method 1 ≡ i → (j : Bool) → eqb method 2 ≡ j
+          → cond i (combustionGrams kilos a b c) (cond j (processGrams kilos a c) (carbonGrams kilos a)) ≤ 1000000000000000
+      go true e j f = combustion-small (eqb-true method 1 e)
+      go false e true f = process-small (eqb-true method 2 f)
+      go false e false f = carbon-small (eqb-false method 1 e) (eqb-false method 2 f)
+
   -- its sign aside
   pub stream-small : natAbs (streamGrams method kilos a b c d) ≤ 1000000000000000
   unfolding streamGrams
-  stream-small = go (eqb method 1) refl (eqb method 2) refl (eqb method 3)
-    where
-      go : (i : Bool) → eqb method 1 ≡ i → (j : Bool) → eqb method 2 ≡ j → (k : Bool)
-          → natAbs (cond i (pos (combustionGrams kilos a b c d)) (cond j (pos (processGrams kilos a c d))
-          (cond k (pos (carbonGrams kilos a)) (negℤ (pos (carbonGrams kilos a)))))) ≤ 1000000000000000
-      go true e j f k = combustion-small (eqb-true method 1 e)
-      go false e true f k = process-small (eqb-true method 2 f)
-      go false e false f true = carbon-small (eqb-false method 1 e) (eqb-false method 2 f)
-      go false e false f false = rw (minus-size (carbonGrams kilos a)) (carbon-small (eqb-false method 1 e) (eqb-false method 2 f))
+  stream-small = rw (counted-size method (fossilGrams (gramsBeforeBiomass method kilos a b c) d)) (fossil-small _ d _ before-small)

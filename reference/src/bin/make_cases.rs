@@ -612,6 +612,73 @@ fn streams(cases: &mut Cases) {
     }
 }
 
+const SHARES: [u64; 5] = [0, 1, 5_000, 9_999, 10_000];
+
+/// kg and carbon content from the lowest to the highest. 10 kg at 1,000 are 37 g,
+/// of which a share of 5,000 leaves a half; 4,094 kg are 15,000 g, of which 1 and
+/// 9,999 do.
+const CARBON: [(u64, u64); 11] = [
+    (1, 0),
+    (1, 499),
+    (1, 500),
+    (1, 1_000),
+    (1, 1_500),
+    (3, 1_000),
+    (10, 1_000),
+    (4_094, 1_000),
+    (1_000, 850_000),
+    (KILOS - 1, 999_999),
+    (KILOS, 1_000_000),
+];
+
+/// The biomass share of carbon going in and going out.
+fn charcoal(cases: &mut Cases) {
+    for method in [3, 4] {
+        for d in SHARES {
+            for (kg, a) in CARBON {
+                cases.add_lines("P,1,7\n", &format!("S,1,{method},0,{kg},{a},0,10000,{d}"));
+            }
+        }
+        // Few grams with shares at both sides of a half: 4 g, 15 g and 22 g are
+        // a half at 8,750, at 9,000 and at 7,500.
+        for (kg, half) in [(1, 8_750), (4, 9_000), (6, 7_500)] {
+            for d in half - 1..=half + 1 {
+                cases.add_lines("P,1,7\n", &format!("S,1,{method},0,{kg},1000,0,10000,{d}"));
+            }
+        }
+    }
+    for round in 0..60 {
+        let size = [Size::Small, Size::Mixed, Size::Highest][round % 3];
+        let mut maker = Maker::new(&mut cases.dice, 2, size);
+        for _ in 0..cases.dice.between(1, 4) {
+            let method = cases.dice.between(3, 4);
+            maker.carbon(&mut cases.dice, method);
+        }
+        maker.good(&mut cases.dice);
+        cases.add(maker.sheet);
+    }
+}
+
+/// Charcoal in and carbon out in the iron of one process; the balance is raised
+/// or not.
+fn charcoal_and_iron(cases: &mut Cases) {
+    for (kg, a, iron_kg, iron_a) in [
+        (1_000, 850_000, 1_000, 40_000),
+        (10, 1_000, 5, 1_000),
+        (5, 1_000, 10, 1_000),
+        (KILOS, 1_000_000, KILOS, 999_999),
+    ] {
+        for d in SHARES {
+            for iron_d in [0, 5_000, d] {
+                cases.add(format!(
+                    "P,1,9\nP,2,5\nS,1,3,0,{kg},{a},0,10000,{d}\n\
+S,1,4,0,{iron_kg},{iron_a},0,10000,{iron_d}\nG,1,2,4\n"
+                ));
+            }
+        }
+    }
+}
+
 /// Remainders just below, at and just above one half at each rounding.
 fn rounding(cases: &mut Cases) {
     for rest in [499, 500, 501, 999, 1_000, 1_499, 1_500] {
@@ -986,6 +1053,8 @@ fn main() -> io::Result<()> {
         spelling,
         several_faults,
         streams,
+        charcoal,
+        charcoal_and_iron,
         rounding,
         goods,
         balances,

@@ -1,42 +1,30 @@
--- `fossil` meets its contract: T3 stays within 10^15. Assumes nothing.
+-- `fossil` meets its contract: a share of at most 10,000 ten-thousandths is no more than the whole. Assumes nothing.
 use borrow.Author.Needs.{needs}
-use mathlib.Core.Path.{ap, _∙_}
-use Prim.Native.Nat.{ℕ, _*_, _-_, _≤_}
+use Prim.Native.Nat.{ℕ, _+_, _*_, _≤_}
 use native.Mathlib.Nat.{mul-le-mul}
 use native.Mathlib.Omega.{arith}
-use Rattle.quantity.specs.Rounding.{round}
 use Rattle.quantity.specs.Streams.{fossilGrams}
 use Rattle.streams.proofs.fossil.Statement.{statement}
 use Rattle.streams.proofs.fossil.Tie as tie
 
+sub-share : tie.Need-sub-share
+sub-share c = search needs
+
+product-small : {grams share : ℕ} → grams ≤ 1000000000000000 → share ≤ 10000 → grams * share ≤ 10000000000000000000
+product-small h g = omega (arith, mul-le-mul h g)
+
+result-small : {grams share r : ℕ} → r * 10000 ≤ grams * share + 5000 → grams ≤ 1000000000000000 → share ≤ 10000 → r ≤ 1000000000000000
+result-small e h g = omega (arith, mul-le-mul h g)
+
 round-ten-thousandths-requires : tie.Need-round-ten-thousandths-requires
-round-ten-thousandths-requires c κs = omega (arith, mul-le-mul (c .pre .0) (c .pre .1 .0))
-
-sub-round-ten-thousandths : tie.Need-sub-round-ten-thousandths
-sub-round-ten-thousandths c = search needs
-
-t3-small : (c : tie.After-round-ten-thousandths) → c .round-ten-thousandths .result ≤ 1000000000000000
-t3-small c = omega (arith, mul-le-mul (c .before .pre .0) (c .before .pre .1 .0))
-
-rest-small : (c : tie.Start) → 10000 - c .args .d ≤ 10000
-rest-small c = omega arith
-
-round-ten-thousandths-requires-2 : tie.Need-round-ten-thousandths-requires-2
-round-ten-thousandths-requires-2 c κs = omega (arith, mul-le-mul (t3-small c) (rest-small (c .before)))
+round-ten-thousandths-requires c κs = product-small (c .pre .0) (omega (arith, c .pre .1))
 
 returns : tie.Need-returns
 unfolding fossilGrams
 returns c =
-    let rest = 10000 - c .before .before .args .d in (
-      c .round-ten-thousandths2 .ensures .0 ∙ ap (λ (t3 : ℕ). round (t3 * rest) 10000) (c .before .round-ten-thousandths .ensures .0),
-      omega (arith, mul-le-mul (t3-small (c .before)) (rest-small (c .before .before))),
-    )
+    let p = c .before .pre in
+    let r = c .round-ten-thousandths .ensures in
+    (r .0, result-small (r .1) (p .0) (omega (arith, p .1)))
 
 pub fossil-spec : {M : Type 1} → statement M
-fossil-spec =
-    tie.close
-    (tie.spec
-    round-ten-thousandths-requires
-    sub-round-ten-thousandths
-    round-ten-thousandths-requires-2
-    returns)
+fossil-spec = tie.close (tie.spec sub-share round-ten-thousandths-requires returns)
