@@ -1,6 +1,6 @@
 """Writes the trial's input and the output that is expected of it.
 
-cases.py FOLDER         the examples of document 01
+cases.py FOLDER         the examples of document 01, and one of document 02
 cases.py FOLDER CASES   the cases that the reference implementation made
 """
 import sys
@@ -21,6 +21,17 @@ NOTHING = b"""R,1,0,0,0,0,0,0,0,0.000,0.000
 R,2,0,0,0,0,0,0,0,0.000,0.000
 T,0,0,0,0
 """
+# Document 02, ticket 2: 1,000 kg at 850,000 mg/kg are 3,114,400 g; with shares of 0, 1, 5,000, 9,999 and 10,000 in process 1 to 5.
+SHARES = b"".join(b"P,%d,1000\n" % n for n in range(1, 6)) + b"".join(
+    b"S,%d,3,0,1000,850000,0,10000,%d\n" % case for case in enumerate((0, 1, 5000, 9999, 10000), start=1)
+)
+SHARES_REPORT = b"""R,1,3114400,0,0,3114400,0,3114400,0,3114.400,0.000
+R,2,3114089,0,0,3114089,0,3114089,0,3114.089,0.000
+R,3,1557200,0,0,1557200,0,1557200,0,1557.200,0.000
+R,4,311,0,0,311,0,311,0,0.311,0.000
+R,5,0,0,0,0,0,0,0,0.000,0.000
+T,7786000,7786000,0,0
+"""
 # The example report and the table of refusals: a sheet, its number and line, its report.
 EXAMPLES = [
     (EXAMPLE, 0, 0, REPORT),
@@ -39,6 +50,7 @@ EXAMPLES = [
     (b"P,1,5\nP,2,5\nG,1,2,6\n", 13, 3, b""),
     (b"", 14, 0, b""),
     (b"P,1,1\nP,2,1\nG,1,2,1\n", 0, 0, NOTHING),
+    (SHARES, 0, 0, SHARES_REPORT),
 ]
 
 

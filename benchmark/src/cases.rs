@@ -2,7 +2,7 @@
 
 use std::io::Write;
 
-use reference::samples::{Dice, KILOS, Size, full_sheet};
+use reference::samples::{Dice, KILOS, Maker, Size, full_sheet, pad};
 use reference::sheet::{MOST_BYTES, MOST_LINES};
 
 use crate::SPACE;
@@ -47,6 +47,7 @@ impl Case<u8> {
 pub fn cases() -> Vec<Case<u8>> {
     vec![
         Case::accepted("full", "full sheet of mixed lines", mixed(MOST_BYTES)),
+        Case::accepted("streams", "full sheet of source streams", streams()),
         Case::accepted("short", "4,096 short lines", short_lines()),
         Case::accepted("goods", "16 processes, all 120 pairs", all_pairs()),
         Case::accepted("no-goods", "16 processes, no goods", no_goods()),
@@ -77,6 +78,18 @@ E,0,2,500,400000\nB,2,100,1900000,250000\nG,1,2,300\n";
 /// A sheet of 16 processes and mixed lines, of exactly so many bytes.
 pub fn mixed(length: usize) -> Vec<u8> {
     full_sheet(&mut Dice::new(SEED), 16, Size::Mixed, length)
+}
+
+/// A full sheet of 16 processes and source streams of all methods; a few lines
+/// of waste gas fill it up.
+fn streams() -> Vec<u8> {
+    let mut dice = Dice::new(SEED);
+    let mut maker = Maker::new(&mut dice, 16, Size::Mixed);
+    while maker.sheet.len() + 80 < MOST_BYTES {
+        maker.stream(&mut dice);
+    }
+    pad(&mut maker.sheet, MOST_BYTES);
+    maker.sheet
 }
 
 /// As many lines as a sheet may have, each of 6 to 10 bytes.

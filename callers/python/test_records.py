@@ -28,7 +28,7 @@ from wiltoresh import (
 )
 
 WORKS = (Path(__file__).resolve().parents[2] / "example" / "works.csv").read_bytes()
-LINES = 38
+LINES = 39
 
 # The sheet of document 01.
 SHEET = b"""P,1,1000
@@ -124,7 +124,7 @@ class Records(unittest.TestCase):
     def test_example_works(self) -> None:
         records = read(WORKS)
         self.assertEqual(len(records), LINES)
-        self.assertEqual(records[17], SourceStream(4, 1, 16, 2000000, 48600, None, 10000, 0))
+        self.assertEqual(records[18], SourceStream(4, 1, 16, 2000000, 48600, None, 10000, 0))
         self.assertEqual(write(records), WORKS)
 
     def test_greatest_sheet(self) -> None:

@@ -69,6 +69,11 @@ class Document(unittest.TestCase):
         expected = b"R,1,0,0,1,0,0,0,0,0.000,0.000\nT,0,-1,1,0\n"
         self.assertEqual(report(b"P,1,5\nE,1,0,1,1000\n"), expected)
 
+    def test_biomass_in_a_mass_balance(self) -> None:
+        """Document 02, ticket 2: 11 g of carbon in and 4 g out, half of each biomass: 6 − 2."""
+        sheet = b"P,1,5\nS,1,3,0,3,1000,0,10000,5000\nS,1,4,0,1,1000,0,10000,5000\n"
+        self.assertEqual(report(sheet), b"R,1,4,0,0,4,0,4,0,0.800,0.000\nT,4,4,0,0\n")
+
     def test_table_of_refusals(self) -> None:
         for number, line, text, sheet in REFUSED:
             with self.subTest(number=number):
@@ -167,7 +172,7 @@ class Lines(unittest.TestCase):
     def test_lines_that_a_sheet_has_not(self) -> None:
         end = len(WORKS)
         self.assertEqual(line_place(WORKS, 0), slice(0, 0))
-        for line in (39, 40, 2**64 - 1, 2**64, 2**64 + 1):
+        for line in (40, 41, 2**64 - 1, 2**64, 2**64 + 1):
             self.assertEqual(line_place(WORKS, line), slice(end, end))
         with self.assertRaises(ValueError):
             line_place(WORKS, -1)
@@ -178,10 +183,10 @@ class Lines(unittest.TestCase):
         self.assertEqual(raised.exception.args, (4, 1, b"p,1,5"))
         with self.assertRaises(Refusal) as raised:
             report(WORKS + b"G,4,3,1\n")
-        self.assertEqual(raised.exception.args, (10, 39, b"G,4,3,1"))
+        self.assertEqual(raised.exception.args, (10, 40, b"G,4,3,1"))
         with self.assertRaises(Refusal) as raised:
             report(WORKS[:-1])
-        self.assertEqual(raised.exception.args, (3, 38, b"G,3,4,208000000"))
+        self.assertEqual(raised.exception.args, (3, 39, b"G,3,4,208000000"))
 
     def test_zero_bytes_do_not_end_a_sheet(self) -> None:
         with self.assertRaises(Refusal) as raised:

@@ -138,7 +138,8 @@ class SourceStream:
     a is the net calorific value in kJ/kg (method 1), the emission factor in mg/kg (method 2) or the carbon content in
     mg/kg (methods 3 and 4). b is the emission factor in mg/MJ (method 1), or 0. None is the standard value of the code:
     in a of methods 1 and 2, and in b of method 1. c is the oxidation factor (method 1) or the conversion factor
-    (method 2), or 10,000, and d the biomass share, both in ten-thousandths.
+    (method 2), or 10,000, and d the biomass share, by which the grams of every method are lessened, both in
+    ten-thousandths.
     """
 
     process: int

@@ -10,8 +10,9 @@ pub fn valid(dice: &mut Dice) -> Vec<u8> {
         0 => all_pairs(dice),
         1..6 => lowered(dice),
         6..10 => streams(dice),
-        10..13 => goods(dice),
-        13..16 => gas_and_power(dice),
+        10..13 => mass_balance(dice),
+        13..16 => goods(dice),
+        16..19 => gas_and_power(dice),
         _ => mixed(dice),
     }
 }
@@ -52,6 +53,22 @@ fn streams(dice: &mut Dice) -> Vec<u8> {
     maker.sheet
 }
 
+/// Carbon that comes in and goes out, in few processes, with and without a
+/// biomass share.
+fn mass_balance(dice: &mut Dice) -> Vec<u8> {
+    let size = size(dice);
+    let count = dice.between(1, 3) as usize;
+    let mut maker = Maker::new(dice, count, size);
+    for _ in 0..dice.between(1, 6) {
+        let method = dice.between(3, 4);
+        maker.carbon(dice, method);
+    }
+    if dice.once_in(2) {
+        maker.good(dice);
+    }
+    maker.sheet
+}
+
 /// More goes out than comes in, so that balances fall below zero.
 fn lowered(dice: &mut Dice) -> Vec<u8> {
     let size = size(dice);
@@ -62,7 +79,7 @@ fn lowered(dice: &mut Dice) -> Vec<u8> {
         let kg = size.number(dice, 1, KILOS);
         let a = size.number(dice, 0, 1_000_000);
         match dice.below(4) {
-            0 => writeln!(maker.sheet, "S,{n},4,0,{kg},{a},0,10000,0").unwrap(),
+            0 => maker.carbon(dice, 4),
             1 => writeln!(maker.sheet, "E,{n},{n},{kg},{a}").unwrap(),
             2 => writeln!(maker.sheet, "W,{n},0,{kg}").unwrap(),
             _ => writeln!(maker.sheet, "H,{n},0,{kg},{}", a % 400_001).unwrap(),

@@ -68,7 +68,7 @@ pub enum Record {
         b: Option<u64>,
         /// The oxidation factor (method 1) or the conversion factor (method 2) in ten-thousandths, or 10,000.
         c: u64,
-        /// The biomass share in ten-thousandths.
+        /// The biomass share in ten-thousandths, by which the grams of every method are lessened.
         d: u64,
     },
     /// `H`: measurable heat.

@@ -55,6 +55,15 @@ fn balance_raised_to_zero() {
     assert_eq!(given.as_bytes(), expected);
 }
 
+/// Document 02, ticket 2: 11 g of carbon in and 4 g out, half of each biomass: 6 − 2.
+#[test]
+fn biomass_in_a_mass_balance() {
+    let expected = b"R,1,4,0,0,4,0,4,0,0.800,0.000\nT,4,4,0,0\n";
+    let given =
+        report(b"P,1,5\nS,1,3,0,3,1000,0,10000,5000\nS,1,4,0,1,1000,0,10000,5000\n").unwrap();
+    assert_eq!(given.as_bytes(), expected);
+}
+
 #[test]
 fn table_of_refusals() {
     for (number, line, text, sheet) in REFUSED {

@@ -6,7 +6,7 @@ use std::thread;
 use wiltoresh::{read_into, write_into, Answer, Counted, RECORD_WORDS, STANDARD};
 
 const WORKS: &[u8] = include_bytes!("../../../example/works.csv");
-const LINES: usize = 38;
+const LINES: usize = 39;
 
 const ACCEPTED: Answer = Answer {
     number: 0,

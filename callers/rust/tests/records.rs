@@ -127,7 +127,7 @@ fn records_with_a_measured_value_and_waste_gas() {
 #[test]
 fn example_works() {
     let records = read(WORKS).unwrap();
-    assert_eq!(records.len(), 38);
+    assert_eq!(records.len(), 39);
     assert_eq!(records[3], process(4, 200_000_000));
     assert_eq!(write(&records).unwrap(), WORKS);
 }
