@@ -32,7 +32,7 @@ R,4,311,0,0,311,0,311,0,0.311,0.000
 R,5,0,0,0,0,0,0,0,0.000,0.000
 T,7786000,7786000,0,0
 """
-# The example report and the table of refusals: a sheet, its number and line, its report.
+# The example report, the table of refusals and a case of ticket 2: a sheet, its number and line, its report.
 EXAMPLES = [
     (EXAMPLE, 0, 0, REPORT),
     (b"x" * 65537, 1, 0, b""),

@@ -1,4 +1,5 @@
-"""The Python module: the examples of document 01, the works in example/, lent spaces, threads and places of lines."""
+"""The Python module: the examples of document 01 and one of document 02, the works in example/, lent spaces, threads and
+places of lines."""
 
 import doctest
 import pickle

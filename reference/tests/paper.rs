@@ -150,44 +150,45 @@ fn carbon_prints(kg: u64, a: u64, d: u64, grams: u64) {
 
 /// Ticket 2. Each row has kg, a, and the result for each of `SHARES`, g being
 /// the grams before the biomass step.
+const CHARCOAL: [(u64, u64, [u64; 5]); 6] = [
+    // T1 = 850,000; g = 3,114,400,000/1,000 = 3,114,400. d = 1: g × 9,999 is
+    // 31,140,885,600, with 5,000 more 3,114,089 whole parts; cut down it
+    // would be 3,114,088. d = 9,999: 3,114,400 + 5,000 is 311 whole parts.
+    (1_000, 850_000, [3_114_400, 3_114_089, 1_557_200, 311, 0]),
+    // T1 = 1; g = (3,664 + 500)/1,000 = 4. d = 5,000: 20,000/10,000 = 2. The
+    // share taken before 3,664 would give T1 = round(0.5) = 1 and so 4.
+    (1, 1_000, [4, 4, 2, 0, 0]),
+    // T1 = 10; g = (36,640 + 500)/1,000 = 37. d = 1: 369,963 + 5,000 is 37
+    // whole parts. d = 5,000: 185,000 + 5,000 is 19. It would be 18 cut down
+    // (18.5), with the half to the even number, with the share before 3,664
+    // (T1 = 5, 18,320), and rounded once at the end (36.64/2 = 18.32).
+    (10, 1_000, [37, 37, 19, 0, 0]),
+    // T1 = (1,500 + 500)/1,000 = 2; g = (7,328 + 500)/1,000 = 7. d = 5,000:
+    // 35,000 + 5,000 is 4. Rounded once at the end it would be 3, since
+    // 1.5 × 3.664/2 = 2.748.
+    (1, 1_500, [7, 7, 4, 0, 0]),
+    // T1 = 4,094; g = (15,000,416 + 500)/1,000 = 15,000. d = 1: 149,985,000 is
+    // 14,998.5 and so 14,999; with the share before 3,664 T1 stays
+    // round(4,093.59) = 4,094 and it would be 15,000. d = 9,999: 1.5 and so
+    // 2; with the share before 3,664 T1 = round(0.4094) = 0 and it would be 0.
+    (4_094, 1_000, [15_000, 14_999, 7_500, 2, 0]),
+    // T1 = 10^13; g = 3,664 × 10^10. A ten-thousandth of it is 3,664 × 10^6.
+    (
+        10_000_000_000,
+        1_000_000,
+        [
+            36_640_000_000_000,
+            36_636_336_000_000,
+            18_320_000_000_000,
+            3_664_000_000,
+            0,
+        ],
+    ),
+];
+
 #[test]
 fn charcoal() {
-    let rows = [
-        // T1 = 850,000; g = 3,114,400,000/1,000 = 3,114,400. d = 1: g × 9,999 is
-        // 31,140,885,600, with 5,000 more 3,114,089 whole parts; cut down it
-        // would be 3,114,088. d = 9,999: 3,114,400 + 5,000 is 311 whole parts.
-        (1_000, 850_000, [3_114_400, 3_114_089, 1_557_200, 311, 0]),
-        // T1 = 1; g = (3,664 + 500)/1,000 = 4. d = 5,000: 20,000/10,000 = 2. The
-        // share taken before 3,664 would give T1 = round(0.5) = 1 and so 4.
-        (1, 1_000, [4, 4, 2, 0, 0]),
-        // T1 = 10; g = (36,640 + 500)/1,000 = 37. d = 1: 369,963 + 5,000 is 37
-        // whole parts. d = 5,000: 185,000 + 5,000 is 19. It would be 18 cut down
-        // (18.5), with the half to the even number, with the share before 3,664
-        // (T1 = 5, 18,320), and rounded once at the end (36.64/2 = 18.32).
-        (10, 1_000, [37, 37, 19, 0, 0]),
-        // T1 = (1,500 + 500)/1,000 = 2; g = (7,328 + 500)/1,000 = 7. d = 5,000:
-        // 35,000 + 5,000 is 4. Rounded once at the end it would be 3, since
-        // 1.5 × 3.664/2 = 2.748.
-        (1, 1_500, [7, 7, 4, 0, 0]),
-        // T1 = 4,094; g = (15,000,416 + 500)/1,000 = 15,000. d = 1: 149,985,000 is
-        // 14,998.5 and so 14,999; with the share before 3,664 T1 stays
-        // round(4,093.59) = 4,094 and it would be 15,000. d = 9,999: 1.5 and so
-        // 2; with the share before 3,664 T1 = round(0.4094) = 0 and it would be 0.
-        (4_094, 1_000, [15_000, 14_999, 7_500, 2, 0]),
-        // T1 = 10^13; g = 3,664 × 10^10. A ten-thousandth of it is 3,664 × 10^6.
-        (
-            10_000_000_000,
-            1_000_000,
-            [
-                36_640_000_000_000,
-                36_636_336_000_000,
-                18_320_000_000_000,
-                3_664_000_000,
-                0,
-            ],
-        ),
-    ];
-    for (kg, a, results) in rows {
+    for (kg, a, results) in CHARCOAL {
         for (d, grams) in SHARES.into_iter().zip(results) {
             carbon_prints(kg, a, d, grams);
         }

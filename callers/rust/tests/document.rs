@@ -1,4 +1,5 @@
-//! The examples of document 01: its sheet, its table of refusals, what it accepts, and the works in example/.
+//! The examples of document 01: its sheet, its table of refusals, what it accepts; a case of document 02; and the works in
+//! example/.
 
 use wiltoresh::{longest, report, report_into, Answer, Refusal};
 

@@ -26,8 +26,11 @@ pub charge-small : (megajoules : ℕ) → megajoules ≤ 1000000000000 → waste
 unfolding wasteGasCharge
 charge-small megajoules h = rounded-le megajoules 56100 1000000000000 56100 1000000000000000 h (le-refl 56100) (omega arith)
 
--- a share of ten-thousandths is no more than the whole
-share-le : (grams share most : ℕ) → grams ≤ most → share ≤ 10000 → round (grams * share) 10000 ≤ most
+-- a share of ten-thousandths is no more than the whole, and the product of the two fits 64 bits
+pub share-fits : (grams share : ℕ) → grams ≤ 1000000000000000 → share ≤ 10000 → grams * share ≤ 10000000000000000000
+share-fits grams share h g = omega (arith, mul-le-mul h g)
+
+pub share-le : (grams share most : ℕ) → grams ≤ most → share ≤ 10000 → round (grams * share) 10000 ≤ most
 share-le grams share most h g = omega (arith, tenThousandths-near (grams * share), mul-le-mul h g)
 
 fossil-small : (grams d most : ℕ) → grams ≤ most → fossilGrams grams d ≤ most

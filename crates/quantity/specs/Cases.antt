@@ -1,4 +1,4 @@
--- Examples. They tell the steps of document 01's equations apart, with figures worked out by hand.
+-- Examples. They tell the steps of document 01's equations, and of ticket 2 of document 02, apart, with figures worked out by hand.
 use mathlib.Core.List.{List, [], _∷_}
 use lib.IntN.{ℤ, pos, negsuc}
 use Rattle.quantity.specs.Rounding.{round}

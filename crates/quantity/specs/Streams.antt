@@ -5,18 +5,21 @@ use lib.Dec.{eqb}
 use lib.IntN.{ℤ, pos, negℤ}
 use Rattle.quantity.specs.Rounding.{round}
 
--- Method 1, burning (Regulation 2018/2066, Article 24(1)). a = net calorific value, kJ/kg; b = emission factor, mg/MJ; c = oxidation factor,
--- ten-thousandths. T1 = round(kg × a/1,000) MJ; T2 = round(T1 × b/1,000) g; T3 = round(T2 × c/10,000)
+-- c is the oxidation or conversion factor, ten-thousandths: T3 = round(T2 × c/10,000)
+abbrev pub oxidisedGrams : (T2 c : ℕ) → ℕ
+oxidisedGrams T2 c = round (T2 * c) 10000
+
+-- Method 1, burning (Regulation 2018/2066, Article 24(1)). a = net calorific value, kJ/kg; b = emission factor, mg/MJ. T1 = round(kg × a/1,000) MJ;
+-- T2 = round(T1 × b/1,000) g; then c
 unfoldable pub combustionGrams : (kilos a b c : ℕ) → ℕ
 combustionGrams kilos a b c =
     let T1 : ℕ = round (kilos * a) 1000 in
     let T2 : ℕ = round (T1 * b) 1000 in
-    round (T2 * c) 10000
+    oxidisedGrams T2 c
 
--- Method 2, process emission (Article 24(2)). a = emission factor, mg/kg; c = conversion factor, ten-thousandths. T1 = round(kg × a/1,000) g,
--- then c as above
+-- Method 2, process emission (Article 24(2)). a = emission factor, mg/kg. T1 = round(kg × a/1,000) g, then c
 unfoldable pub processGrams : (kilos a c : ℕ) → ℕ
-processGrams kilos a c = let T1 : ℕ = round (kilos * a) 1000 in round (T1 * c) 10000
+processGrams kilos a c = let T1 : ℕ = round (kilos * a) 1000 in oxidisedGrams T1 c
 
 -- Methods 3 and 4, carbon going in and carbon going out (Article 25, mass balance). a = carbon, mg/kg. T1 = round(kg × a/1,000); grams =
 -- round(T1 × 3,664/1,000)

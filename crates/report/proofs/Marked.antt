@@ -1,4 +1,4 @@
--- The marked cases of document 01: one theorem that the checker computes over the table. Assumes nothing.
+-- The marked cases of document 01, and those of ticket 2 of document 02: one theorem that the checker computes over the table. Assumes nothing.
 use mathlib.Core.List.{map}
 use mathlib.Core.Path.{_≡_, refl}
 use Rattle.quantity.specs.Rounding.{round}

@@ -1,4 +1,4 @@
--- Examples. Document 01, "What the contracts say", d: the marked cases, one table, and those of the requests of document 02.
+-- Examples. Document 01, "What the contracts say", d: the marked cases, one table, and those of ticket 2 of document 02.
 use mathlib.Core.List.{List, [], _∷_}
 use Prim.Native.Nat.{ℕ}
 use Prim.Native.String.{String}

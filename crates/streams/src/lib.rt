@@ -6,10 +6,20 @@ use quantity::SignedGrams;
 ghost use mathlib.Core.Path.{_≡_};
 ghost use Prim.Native.Nat.{_≤_};
 ghost use lib.IntN.{pos, negℤ, natAbs};
-ghost use Rattle.quantity.specs.Streams.{combustionGrams, processGrams, carbonGrams, gramsBeforeBiomass, fossilGrams, streamGrams};
+ghost use Rattle.quantity.specs.Streams.{oxidisedGrams, combustionGrams, processGrams, carbonGrams, gramsBeforeBiomass};
+ghost use Rattle.quantity.specs.Streams.{fossilGrams, streamGrams};
 ghost use Rattle.quantity.specs.Ranges.{CombustionRange, ProcessRange, CarbonRange, StreamRange};
 
-// Method 1, burning: T1 in MJ, T2 in g, then c: T3 = round(T2 × c/10,000).
+// The oxidation or conversion factor c: T3 = round(T2 × c/10,000).
+fn oxidised(t2: Grams, c: u64) -> Grams
+    requires { ⌜ (t2 .0 ≤ 1000000000000000) × (c ≤ 10000) ⌝ }
+    ensures { λ r. ⌜ r .0 ≡ oxidisedGrams (t2 .0) c ⌝ }
+    ensures bounded { λ r. ⌜ r .0 ≤ 1000000000000000 ⌝ }
+{
+    Grams(grams::round_ten_thousandths(t2.0, c))
+}
+
+// Method 1, burning: T1 in MJ, T2 in g, then c.
 fn combustion(mass: Kilos, a: u64, b: u64, c: u64) -> Grams
     requires { ⌜ CombustionRange (mass .0) a b c ⌝ }
     ensures { λ r. ⌜ r .0 ≡ combustionGrams (mass .0) a b c ⌝ }
@@ -17,7 +27,7 @@ fn combustion(mass: Kilos, a: u64, b: u64, c: u64) -> Grams
 {
     let t1 = Megajoules(grams::round_thousandths(mass.0, a));
     let t2 = Grams(grams::round_thousandths(t1.0, b));
-    Grams(grams::round_ten_thousandths(t2.0, c))
+    oxidised(t2, c)
 }
 
 // Method 2, process emission: T1 in g, then c.
@@ -27,7 +37,7 @@ fn process_emission(mass: Kilos, a: u64, c: u64) -> Grams
     ensures bounded { λ r. ⌜ r .0 ≤ 1000000000000000 ⌝ }
 {
     let t1 = Grams(grams::round_thousandths(mass.0, a));
-    Grams(grams::round_ten_thousandths(t1.0, c))
+    oxidised(t1, c)
 }
 
 // Methods 3 and 4, carbon going in and carbon going out.

@@ -669,7 +669,7 @@ fn charcoal_and_iron(cases: &mut Cases) {
         (KILOS, 1_000_000, KILOS, 999_999),
     ] {
         for d in SHARES {
-            for iron_d in [0, 5_000, d] {
+            for iron_d in [0, 5_000, 10_000] {
                 cases.add(format!(
                     "P,1,9\nP,2,5\nS,1,3,0,{kg},{a},0,10000,{d}\n\
 S,1,4,0,{iron_kg},{iron_a},0,10000,{iron_d}\nG,1,2,4\n"

@@ -1,4 +1,4 @@
--- `combustion` meets its contract: T1 stays within 2 × 10^12, T2 and T3 within 10^15. Assumes nothing.
+-- `combustion` meets its contract: T1 stays within 2 × 10^12 and T2 within 10^15. Assumes nothing.
 use Prim.Native.Nat.{_≤_}
 use native.Mathlib.Nat.{mul-le-mul}
 use native.Mathlib.Omega.{arith}
@@ -15,17 +15,16 @@ t1-small c = omega (arith, mul-le-mul (c .before .pre .mass) (c .before .pre .ca
 round-thousandths-requires-2 : tie.Need-round-thousandths-requires-2
 round-thousandths-requires-2 c κs = omega (arith, mul-le-mul (t1-small c) (c .before .pre .factor))
 
-t2-small : (c : tie.After-round-thousandths2) → c .round-thousandths2 .result ≤ 1000000000000000
-t2-small c = omega (arith, mul-le-mul (t1-small (c .before)) (c .before .before .pre .factor))
-
-round-ten-thousandths-requires : tie.Need-round-ten-thousandths-requires
-round-ten-thousandths-requires c κs = omega (arith, mul-le-mul (t2-small c) (c .before .before .pre .oxidation))
+oxidised-requires : tie.Need-oxidised-requires
+oxidised-requires c κs =
+    let p = c .before .before .pre in
+    (omega (arith, mul-le-mul (t1-small (c .before)) (p .factor)), p .oxidation)
 
 returns : tie.Need-returns
 unfolding combustionGrams
-returns c = ((cc), omega (arith, mul-le-mul (t2-small (c .before)) (c .before .before .before .pre .oxidation)))
+returns c = ((cc), c .oxidised .ensures .1)
 
 pub combustion-spec : {M : Type 1} → statement M
 combustion-spec =
     tie.close
-    (tie.spec round-thousandths-requires round-thousandths-requires-2 round-ten-thousandths-requires returns)
+    (tie.spec round-thousandths-requires round-thousandths-requires-2 oxidised-requires returns)
