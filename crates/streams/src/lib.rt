@@ -69,8 +69,8 @@ fn fossil(grams: Grams, d: u64) -> Grams
     ensures { λ r. ⌜ r .0 ≡ fossilGrams (grams .0) d ⌝ }
     ensures bounded { λ r. ⌜ r .0 ≤ 1000000000000000 ⌝ }
 {
-    let share = 10000 - d;
-    Grams(grams::round_ten_thousandths(grams.0, share))
+    let fossil_share = 10000 - d;
+    Grams(grams::round_ten_thousandths(grams.0, fossil_share))
 }
 
 // Counted plus.

@@ -6,8 +6,8 @@ use Rattle.quantity.proofs.Small.{share-fits, share-le}
 use Rattle.streams.proofs.fossil.Statement.{statement}
 use Rattle.streams.proofs.fossil.Tie as tie
 
-sub-share : tie.Need-sub-share
-sub-share c = search needs
+sub-fossil-share : tie.Need-sub-fossil-share
+sub-fossil-share c = search needs
 
 round-ten-thousandths-requires : tie.Need-round-ten-thousandths-requires
 round-ten-thousandths-requires c κs = share-fits _ _ (c .pre .0) (omega (arith, c .pre .1))
@@ -20,4 +20,4 @@ returns c =
     (e, rw e (share-le _ _ 1000000000000000 (p .0) (omega (arith, p .1))))
 
 pub fossil-spec : {M : Type 1} → statement M
-fossil-spec = tie.close (tie.spec sub-share round-ten-thousandths-requires returns)
+fossil-spec = tie.close (tie.spec sub-fossil-share round-ten-thousandths-requires returns)
