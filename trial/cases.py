@@ -32,7 +32,39 @@ R,4,311,0,0,311,0,311,0,0.311,0.000
 R,5,0,0,0,0,0,0,0,0.000,0.000
 T,7786000,7786000,0,0
 """
-# The example report, the table of refusals and a case of ticket 2: a sheet, its number and line, its report.
+# Document 01, "Source streams": kJ/kg and mg/MJ of each fuel, mg/kg of each carbonate, as it prints them.
+FUELS = [
+    (42300, 73300),
+    (44300, 69300),
+    (43800, 71900),
+    (43000, 74100),
+    (40400, 77400),
+    (47300, 63100),
+    (32500, 97500),
+    (26700, 98300),
+    (28200, 94600),
+    (25800, 94600),
+    (18900, 96100),
+    (11900, 101000),
+    (28200, 107000),
+    (38700, 44400),
+    (2470, 260000),
+    (48000, 56100),
+]
+CARBONATES = [440000, 522000, 415000, 223000, 596000, 318000, 298000, 524000, 380000]
+
+
+def table(method, rest, grams):
+    """A sheet with a process and a stream for each code, and its report, with these grams code by code."""
+    codes = range(1, len(grams) + 1)
+    lines = [b"P,%d,1\n" % n for n in codes] + [b"S,%d,%d,%d,%s\n" % (n, method, n, rest) for n in codes]
+    rows = [b"R,%d,%d,0,0,%d,0,%d,0,%d.000,0.000\n" % (n, g, g, g, g) for n, g in zip(codes, grams)]
+    return b"".join(lines), 0, 0, b"".join(rows) + b"T,%d,%d,0,0\n" % (sum(grams), sum(grams))
+
+
+# The example report, the table of refusals, a case of ticket 2, and the standard values: a sheet, its number and line, its
+# report. 1,000 kg at 1,000 mg/MJ weigh the net calorific value in grams, 1,000 kg at 1,000 kJ/kg the emission factor, 1,000 kg
+# of a carbonate its factor.
 EXAMPLES = [
     (EXAMPLE, 0, 0, REPORT),
     (b"x" * 65537, 1, 0, b""),
@@ -51,6 +83,9 @@ EXAMPLES = [
     (b"", 14, 0, b""),
     (b"P,1,1\nP,2,1\nG,1,2,1\n", 0, 0, NOTHING),
     (SHARES, 0, 0, SHARES_REPORT),
+    table(1, b"1000,-,1000,10000,0", [value for value, _ in FUELS]),
+    table(1, b"1000,1000,-,10000,0", [factor for _, factor in FUELS]),
+    table(2, b"1000,-,0,10000,0", CARBONATES),
 ]
 
 

@@ -52,6 +52,57 @@ fn marked_streams() {
     );
 }
 
+/// Document 01's fuels, code 1 to 16: kJ/kg and mg/MJ, as it prints them.
+const FUELS: [(u64, u64); 16] = [
+    (42300, 73300),
+    (44300, 69300),
+    (43800, 71900),
+    (43000, 74100),
+    (40400, 77400),
+    (47300, 63100),
+    (32500, 97500),
+    (26700, 98300),
+    (28200, 94600),
+    (25800, 94600),
+    (18900, 96100),
+    (11900, 101000),
+    (28200, 107000),
+    (38700, 44400),
+    (2470, 260000),
+    (48000, 56100),
+];
+
+/// Document 01's carbonates, code 1 to 9: mg/kg, as it prints them.
+const CARBONATES: [u64; 9] = [
+    440000, 522000, 415000, 223000, 596000, 318000, 298000, 524000, 380000,
+];
+
+/// A sheet with a process and a stream for each code: what follows the code in
+/// its S line. Its report must have these direct grams, code by code.
+#[track_caller]
+fn stream_of_each_code(method: u64, rest: &str, grams: &[u64]) {
+    let codes = 1..=grams.len();
+    let mut sheet: String = codes.clone().map(|n| format!("P,{n},1\n")).collect();
+    sheet.extend(codes.map(|n| format!("S,{n},{method},{n},{rest}\n")));
+    let mut expected: String = (1..)
+        .zip(grams)
+        .map(|(n, g)| format!("R,{n},{g},0,0,{g},0,{g},0,{g}.000,0.000\n"))
+        .collect();
+    let sum: u64 = grams.iter().sum();
+    expected.push_str(&format!("T,{sum},{sum},0,0\n"));
+    prints(&sheet, &expected);
+}
+
+/// 1,000 kg at 1,000 mg/MJ weigh the net calorific value, 1,000 kg at
+/// 1,000 kJ/kg the emission factor, and 1,000 kg of a carbonate its factor.
+#[test]
+fn standard_values_as_printed() {
+    let (values, factors): (Vec<u64>, Vec<u64>) = FUELS.iter().copied().unzip();
+    stream_of_each_code(1, "1000,-,1000,10000,0", &values);
+    stream_of_each_code(1, "1000,1000,-,10000,0", &factors);
+    stream_of_each_code(2, "1000,-,0,10000,0", &CARBONATES);
+}
+
 #[test]
 fn marked_rounding() {
     assert_eq!(thousandth(1_499), 1);

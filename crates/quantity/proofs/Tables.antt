@@ -28,7 +28,7 @@ abbrev pub largest : List ℕ → ℕ
 largest [] = 0
 largest (x ∷ xs) = max x (largest xs)
 
-at-most-largest : (l : List ℕ) (k : ℕ) → getD l k 0 ≤ largest l
+pub at-most-largest : (l : List ℕ) (k : ℕ) → getD l k 0 ≤ largest l
 at-most-largest [] k = omega arith
 at-most-largest (x ∷ xs) zero = omega arith
 at-most-largest (x ∷ xs) (suc k) = omega (arith, at-most-largest xs k)

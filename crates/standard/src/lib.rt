@@ -1,62 +1,54 @@
-// Document 01, "Source streams": the standard value of each code, 0 for a code that has none.
+// Document 01, "Source streams": the standard value of each code, 0 for a code that has none. The arrays hold the printed
+// figures divided by 10, 100 and 1,000, each in 16 bits (document 02, ticket 3). An index is reckoned in a byte, for the
+// machine code: docs/DECISIONS.md.
 ghost use mathlib.Core.Path.{_≡_};
 ghost use Prim.Native.Nat.{_≤_};
 ghost use Rattle.quantity.specs.Standard.{fuelOf, carbonateOf};
 
-// "Fuels": kJ/kg of codes 1 to 16.
-const NET_CALORIFIC_VALUES: [u64; 16] = [
-    42300,
-    44300,
-    43800,
-    43000,
-    40400,
-    47300,
-    32500,
-    26700,
-    28200,
-    25800,
-    18900,
-    11900,
-    28200,
-    38700,
-    2470,
-    48000,
+// "Fuels": net calorific value in 10 kJ/kg of codes 1 to 16.
+const NET_CALORIFIC_VALUES: [u16; 16] = [
+    4230,
+    4430,
+    4380,
+    4300,
+    4040,
+    4730,
+    3250,
+    2670,
+    2820,
+    2580,
+    1890,
+    1190,
+    2820,
+    3870,
+    247,
+    4800,
 ];
 
-// "Fuels": mg/MJ of codes 1 to 16.
-const EMISSION_FACTORS: [u64; 16] = [
-    73300,
-    69300,
-    71900,
-    74100,
-    77400,
-    63100,
-    97500,
-    98300,
-    94600,
-    94600,
-    96100,
-    101000,
-    107000,
-    44400,
-    260000,
-    56100,
+// "Fuels": emission factor in 100 mg/MJ of codes 1 to 16.
+const EMISSION_FACTORS: [u16; 16] = [
+    733,
+    693,
+    719,
+    741,
+    774,
+    631,
+    975,
+    983,
+    946,
+    946,
+    961,
+    1010,
+    1070,
+    444,
+    2600,
+    561,
 ];
 
-// "Carbonates": mg/kg of codes 1 to 9.
-const CARBONATES: [u64; 9] = [
-    440000,
-    522000,
-    415000,
-    223000,
-    596000,
-    318000,
-    298000,
-    524000,
-    380000,
-];
+// "Carbonates": emission factor in 1,000 mg/kg of codes 1 to 9.
+const CARBONATES: [u16; 9] = [440, 522, 415, 223, 596, 318, 298, 524, 380];
 
-// "Source streams", method 1: what `-` in a means.
+// "Source streams", method 1: what `-` in a means, in kJ/kg.
 pub fn standard_net_calorific_value(code: u64) -> u64
     ensures { λ r. ⌜ r ≡ fuelOf code .netCalorificValue ⌝ }
     ensures bounded { λ r. ⌜ r ≤ 200000 ⌝ }
@@ -65,13 +57,12 @@ pub fn standard_net_calorific_value(code: u64) -> u64
         return 0;
     }
     if code <= 16 {
-        let at = (code - 1) as usize;
-        return NET_CALORIFIC_VALUES[at];
+        return NET_CALORIFIC_VALUES[(code as u8 - 1) as usize] as u64 * 10;
     }
     0
 }
 
-// "Source streams", method 1: what `-` in b means.
+// "Source streams", method 1: what `-` in b means, in mg/MJ.
 pub fn standard_emission_factor(code: u64) -> u64
     ensures { λ r. ⌜ r ≡ fuelOf code .emissionFactor ⌝ }
     ensures bounded { λ r. ⌜ r ≤ 400000 ⌝ }
@@ -80,13 +71,12 @@ pub fn standard_emission_factor(code: u64) -> u64
         return 0;
     }
     if code <= 16 {
-        let at = (code - 1) as usize;
-        return EMISSION_FACTORS[at];
+        return EMISSION_FACTORS[(code as u8 - 1) as usize] as u64 * 100;
     }
     0
 }
 
-// "Source streams", method 2: what `-` in a means.
+// "Source streams", method 2: what `-` in a means, in mg/kg.
 pub fn standard_carbonate(code: u64) -> u64
     ensures { λ r. ⌜ r ≡ carbonateOf code ⌝ }
     ensures bounded { λ r. ⌜ r ≤ 4000000 ⌝ }
@@ -95,8 +85,7 @@ pub fn standard_carbonate(code: u64) -> u64
         return 0;
     }
     if code <= 9 {
-        let at = (code - 1) as usize;
-        return CARBONATES[at];
+        return CARBONATES[(code as u8 - 1) as usize] as u64 * 1000;
     }
     0
 }

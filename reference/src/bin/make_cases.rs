@@ -542,6 +542,23 @@ fn several_faults(cases: &mut Cases) {
     }
 }
 
+/// A process and a stream for each code of a table: every standard value of
+/// document 01 stands in a report as it is printed there.
+fn standard_values(cases: &mut Cases) {
+    for (codes, method, rest) in [
+        (16, 1, "1000,-,1000,10000,0"),
+        (16, 1, "1000,1000,-,10000,0"),
+        (16, 1, "1000,-,-,10000,0"),
+        (16, 1, "9999999937,-,-,9973,1021"),
+        (9, 2, "1000,-,0,10000,0"),
+        (9, 2, "9999999937,-,0,9973,1021"),
+    ] {
+        let mut sheet: String = (1..=codes).map(|n| format!("P,{n},1\n")).collect();
+        sheet.extend((1..=codes).map(|n| format!("S,{n},{method},{n},{rest}\n")));
+        cases.add(sheet);
+    }
+}
+
 /// Every method and code, with and without `-`.
 fn streams(cases: &mut Cases) {
     for code in 0..=17 {
@@ -1061,6 +1078,7 @@ fn main() -> io::Result<()> {
         spaces,
         mixed,
         full,
+        standard_values,
     ] {
         family(&mut cases);
     }

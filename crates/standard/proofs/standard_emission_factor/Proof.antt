@@ -1,16 +1,23 @@
--- `standard_emission_factor` meets its contract: the constant array is the second column of `fuels`. Assumes nothing.
+-- `standard_emission_factor` meets its contract: the constant array is the second column of `fuels` divided by 100. Assumes nothing.
 use borrow.Author.Needs.{needs}
 use native.Mathlib.Omega.{arith}
 use Rattle.quantity.specs.Standard.{fuels}
-use Rattle.quantity.proofs.Tables.{emission-factors, at-none, at-found, at-past}
+use Rattle.quantity.proofs.Tables.{emission-factors, at-none, at-past}
+use Rattle.standard.proofs.Divided.{emission-factors-found, held-fits, product-fits}
 use Rattle.standard.proofs.standard_emission_factor.Statement.{statement}
 use Rattle.standard.proofs.standard_emission_factor.Tie as tie
 
 returns : tie.Need-returns
 returns c = (at-none emission-factors (c .before .args .code) (c .if1 .taken), omega arith)
 
-sub-at : tie.Need-sub-at
-sub-at c = search needs
+cast-result : tie.Need-cast-result
+cast-result c = search needs
+
+sub-result : tie.Need-sub-result
+sub-result c = search needs
+
+cast-result-2 : tie.Need-cast-result-2
+cast-result-2 c = search needs
 
 mul-result : tie.Need-mul-result
 mul-result c = search needs
@@ -18,9 +25,15 @@ mul-result c = search needs
 array-read-result : tie.Need-array-read-result
 array-read-result c = search needs
 
+cast-result-3 : tie.Need-cast-result-3
+cast-result-3 c = search (needs, held-fits)
+
+mul-result-2 : tie.Need-mul-result-2
+mul-result-2 c = search (needs, product-fits)
+
 returns-2 : tie.Need-returns-2
 unfolding fuels
-returns-2 c = at-found emission-factors 400000 (omega arith) (c .before .before .args .code) (c .before .if1 .left)
+returns-2 c = emission-factors-found (c .before .before .args .code) (c .before .if1 .left)
 
 returns-3 : tie.Need-returns-3
 unfolding fuels
@@ -28,4 +41,4 @@ returns-3 c = (at-past emission-factors (c .before .before .args .code) (c .if2 
 
 pub standard-emission-factor-spec : {M : Type 1} → statement M
 standard-emission-factor-spec =
-    tie.close (tie.spec returns sub-at mul-result array-read-result returns-2 returns-3)
+    tie.close (tie.spec returns cast-result sub-result cast-result-2 mul-result array-read-result cast-result-3 mul-result-2 returns-2 returns-3)
