@@ -1,6 +1,6 @@
 """Writes the trial's input and the output that is expected of it.
 
-cases.py FOLDER         the examples of document 01, and one of document 02
+cases.py FOLDER         the examples and the standard values of document 01, and one case of document 02
 cases.py FOLDER CASES   the cases that the reference implementation made
 """
 import sys

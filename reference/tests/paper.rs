@@ -77,8 +77,8 @@ const CARBONATES: [u64; 9] = [
     440000, 522000, 415000, 223000, 596000, 318000, 298000, 524000, 380000,
 ];
 
-/// A sheet with a process and a stream for each code: what follows the code in
-/// its S line. Its report must have these direct grams, code by code.
+/// A sheet with a process and a stream for each code; `rest` is what follows the
+/// code in its S line. Its report must have these direct grams, code by code.
 #[track_caller]
 fn stream_of_each_code(method: u64, rest: &str, grams: &[u64]) {
     let codes = 1..=grams.len();

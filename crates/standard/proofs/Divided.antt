@@ -1,4 +1,4 @@
--- Tables of standard values held divided by a unit: no figure loses a digit, and each times the unit is the printed one. Assumes nothing.
+-- Standard values held divided by a unit: no figure loses a digit, and each times the unit is the printed one. Assumes nothing.
 use mathlib.Core.Path.{_≡_, refl, sym, ap, _∙_}
 use mathlib.Core.List.{List, map}
 use Prim.Native.Nat.{ℕ, _*_, _/_, _-_, _^_, _≤_, _<_}
@@ -33,7 +33,8 @@ abbrev pub Found : (unit : ℕ) (printed : List ℕ) (value : ℕ → ℕ) (most
 Found unit printed value most = (code : ℕ) → (code ≡ 0 → ⊥)
     → (getD (divided unit printed) (code - 1) 0 * unit ≡ value code) × (getD (divided unit printed) (code - 1) 0 * unit ≤ most)
 
-found : {printed : List ℕ} {value : ℕ → ℕ} (unit most : ℕ) → Lists printed value → Whole unit printed → largest printed ≤ most → Found unit printed value most
+found : {printed : List ℕ} {value : ℕ → ℕ} (unit most : ℕ) → Lists printed value → Whole unit printed → largest printed ≤ most
+    → Found unit printed value most
 found {printed} {value} unit most t w h code n =
     let each : getD (divided unit printed) (code - 1) 0 * unit ≡ getD printed (code - 1) 0
     = sym (List·getD-map (λ (x : ℕ). x * unit) (divided unit printed) (code - 1) 0)
@@ -52,7 +53,7 @@ pub carbonates-found : Found 1000 carbonates carbonateOf 4000000
 unfolding carbonates
 carbonates-found = found 1000 4000000 carbonate-factors carbonates-whole (omega arith)
 
--- ---- a held figure, and the unit times it, fit 64 bits whatever stands in the table
+-- ---- a held figure, and its product with the unit, fit 64 bits where the largest of the table does
 pub held-fits : (l : List ℕ) (k : ℕ) → largest l < 2 ^ 64 → getD l k 0 < 2 ^ 64
 held-fits l k h = lt-of-le-of-lt (at-most-largest l k) h
 

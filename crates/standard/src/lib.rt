@@ -1,11 +1,11 @@
 // Document 01, "Source streams": the standard value of each code, 0 for a code that has none. The arrays hold the printed
-// figures divided by 10, 100 and 1,000, each in 16 bits (document 02, ticket 3). An index is reckoned in a byte, for the
-// machine code: docs/DECISIONS.md.
+// figures divided by 10, 100 and 1,000, each in 16 bits (document 02, ticket 3). An index is reckoned in a byte for the
+// sake of the compiled code; docs/DECISIONS.md says why.
 ghost use mathlib.Core.Path.{_≡_};
 ghost use Prim.Native.Nat.{_≤_};
 ghost use Rattle.quantity.specs.Standard.{fuelOf, carbonateOf};
 
-// "Fuels": net calorific value in 10 kJ/kg of codes 1 to 16.
+// "Fuels": net calorific value in units of 10 kJ/kg, of codes 1 to 16.
 const NET_CALORIFIC_VALUES: [u16; 16] = [
     4230,
     4430,
@@ -25,7 +25,7 @@ const NET_CALORIFIC_VALUES: [u16; 16] = [
     4800,
 ];
 
-// "Fuels": emission factor in 100 mg/MJ of codes 1 to 16.
+// "Fuels": emission factor in units of 100 mg/MJ, of codes 1 to 16.
 const EMISSION_FACTORS: [u16; 16] = [
     733,
     693,
@@ -45,7 +45,7 @@ const EMISSION_FACTORS: [u16; 16] = [
     561,
 ];
 
-// "Carbonates": emission factor in 1,000 mg/kg of codes 1 to 9.
+// "Carbonates": emission factor in units of 1,000 mg/kg, of codes 1 to 9.
 const CARBONATES: [u16; 9] = [440, 522, 415, 223, 596, 318, 298, 524, 380];
 
 // "Source streams", method 1: what `-` in a means, in kJ/kg.

@@ -542,8 +542,8 @@ fn several_faults(cases: &mut Cases) {
     }
 }
 
-/// A process and a stream for each code of a table: every standard value of
-/// document 01 stands in a report as it is printed there.
+/// A process and a stream for each code of a table. In three of the reports the
+/// standard values stand as document 01 prints them.
 fn standard_values(cases: &mut Cases) {
     for (codes, method, rest) in [
         (16, 1, "1000,-,1000,10000,0"),
