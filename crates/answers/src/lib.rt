@@ -1,4 +1,6 @@
 // Document 01, "The report" and "Sheets sent back": a refusal, or the report of a reckoning, in a lent space.
+#![tactic(auto)]
+
 ghost use Rattle.std.specs.Prelude.{◌≡◌, ◌≤◌, [], length};
 ghost use Rattle.decimal.specs.Writing.{Put};
 ghost use Rattle.report.specs.Outcome.{printed};
@@ -17,7 +19,7 @@ use space::{put_byte, put_bytes};
 pub const LONGEST: usize = 210 * PROCESSES + 83;
 
 // What the job gives: number and line of a refusal, or 0 and 0, and the report's length, 0 for a refusal.
-#[derive(Drop)]
+#[derive(Clone, Copy)]
 pub struct Answer {
     pub number: u64,
     pub line: usize,

@@ -1,4 +1,6 @@
 // Document 01: standard input to standard output, the report of a sheet or the number and line of its refusal.
+#![tactic(auto)]
+
 use answers::LONGEST;
 use input::at_end;
 use libc::{STDERR_FILENO, STDIN_FILENO, STDOUT_FILENO};

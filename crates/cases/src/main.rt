@@ -2,6 +2,8 @@
 // a report space that was filled before are compared. Each is also read as records and written again: the same bytes, or the same refusal,
 // report space aside. A case is five numbers of eight digits (sheet length, space length, number, line,
 // report length), the sheet, and the report.
+#![tactic(auto)]
+
 ghost use Rattle.std.specs.Prelude.{◌+◌, ◌≤◌, ◌<◌};
 
 use libc::{STDIN_FILENO, STDOUT_FILENO};

@@ -3,7 +3,7 @@ ghost use Rattle.std.specs.Prelude.{◌≡◌};
 ghost use Rattle.checks.specs.Numbers.{refusal_number};
 
 // What is wrong with a sheet, in the order of the table, or that nothing is.
-#[derive(Drop)]
+#[derive(Clone, Copy)]
 pub enum Refusal {
     Accepted,
     TooManyBytes,

@@ -1,4 +1,6 @@
 // The figures of all processes once every line is booked: document 01, "Attribution", "Goods and precursors" and "The report".
+#![tactic(auto)]
+
 ghost use Rattle.closing.specs.Closing.{Ready, Closed};
 
 use goods::{GramsByProcess, KilosByPair, KilosByProcess, SIZE};

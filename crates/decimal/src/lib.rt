@@ -1,4 +1,6 @@
 // Document 01, "The sheet" and "The report": numbers in decimal. The definitions are in specs/.
+#![tactic(auto)]
+
 ghost use Rattle.std.specs.Prelude.{◌≡◌, ◌+◌, ◌≤◌, ◌<◌, length};
 ghost use Rattle.decimal.specs.Spelling.{spelling};
 ghost use Rattle.decimal.specs.Writing.{Put};

@@ -1,4 +1,6 @@
 // Document 01, "Attribution": a line that was read, weighed, as one entry.
+#![tactic(auto)]
+
 mod given;
 
 ghost use Rattle.std.specs.Prelude.{◌≡◌};

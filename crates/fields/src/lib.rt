@@ -1,4 +1,6 @@
 // A field read from the sheet's bytes: what stands between two commas, or before the LF.
+#![tactic(auto)]
+
 ghost use Rattle.std.specs.Prelude.{◌≡◌, true, ◌+◌, min, ◌≤◌, ◌<◌, length, drop};
 ghost use Rattle.decimal.specs.Number.{is_digit};
 ghost use Rattle.lines.specs.Words.{CAP};
@@ -8,7 +10,7 @@ ghost use Rattle.fields.specs.Scan.{ScannedAt, FieldReadAt, FieldBounds};
 use lines::{CAP, DASH, OTHER};
 
 // What a field says: a number, where CAP stands for each above it; `-`; or something else.
-#[derive(Drop)]
+#[derive(Clone, Copy)]
 pub enum Said {
     Number(u64),
     Dash,
@@ -16,14 +18,14 @@ pub enum Said {
 }
 
 // A field that was read, and the place of the comma or LF behind it, or of the sheet's end.
-#[derive(Drop)]
+#[derive(Clone, Copy)]
 pub struct FieldRead {
     pub said: Said,
     pub end: usize,
 }
 
 // The bytes of a field taken for digits: their value, whether all are digits, and the field's end.
-#[derive(Drop)]
+#[derive(Clone, Copy)]
 struct Scanned {
     value: u64,
     all: bool,

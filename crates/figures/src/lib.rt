@@ -1,4 +1,6 @@
 // Document 01, "The report": fields and lines written into a lent space. The definitions are in specs/ and in the report's.
+#![tactic(auto)]
+
 ghost use Rattle.std.specs.Prelude.{◌∷◌, ◌+◌, ◌≤◌, length, take};
 ghost use Rattle.decimal.specs.Writing.{Put};
 ghost use Rattle.figures.specs.Figures.{FIELDS, three, spelt, tailed, line};
@@ -9,7 +11,7 @@ use space::put_byte;
 pub const FIELDS: usize = 10;
 
 // A field of the report: a whole figure, one below zero, or a whole part and thousandths.
-#[derive(Drop)]
+#[derive(Clone, Copy)]
 pub enum Figure {
     Whole(u64),
     Minus(u64),

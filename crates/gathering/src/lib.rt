@@ -1,4 +1,6 @@
 // What the lines of a sheet say once they are read: the state before the first line, and after a refused one.
+#![tactic(auto)]
+
 ghost use Rattle.std.specs.Prelude.{◌≡◌};
 ghost use Rattle.ledger.specs.Ledger.{nothing_moved};
 ghost use Rattle.works.specs.Works.{works_at_start};
@@ -11,7 +13,7 @@ use quantity::{Grams, SignedGrams};
 use works::Works;
 
 // The first refusal by rows 2 to 13 and its line, 0 where there is none, and what the lines say.
-#[derive(Drop)]
+#[derive(Clone, Copy)]
 pub struct Read {
     pub refusal: Refusal,
     pub line: usize,

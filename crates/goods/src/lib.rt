@@ -1,4 +1,6 @@
 // Document 01, "Goods and precursors": pools, portions and what is left. The definitions are in specs/.
+#![tactic(auto)]
+
 use quantity::limits::PROCESSES;
 
 // Figures stand at the process's number; place 0 is outside the works.
@@ -8,13 +10,13 @@ pub const SIZE: usize = PROCESSES + 1;
 pub const PAIRS: usize = SIZE * SIZE;
 
 // A figure of each process, at its number, by its unit.
-#[derive(Drop)]
+#[derive(Clone, Copy)]
 pub struct GramsByProcess(pub [u64; SIZE]);
 
-#[derive(Drop)]
+#[derive(Clone, Copy)]
 pub struct SignedGramsByProcess(pub [i64; SIZE]);
 
-#[derive(Drop)]
+#[derive(Clone, Copy)]
 pub struct KilosByProcess(pub [u64; SIZE]);
 
 // The kilograms of each pair of processes. No other array has so many places.

@@ -1,4 +1,6 @@
 // Document 01: the rounding of "Source streams", and the grams of "Attribution" weighed by it.
+#![tactic(auto)]
+
 pub mod weighing;
 
 ghost use Rattle.std.specs.Prelude.{◌≡◌, ◌+◌, ◌*◌, ◌≤◌};

@@ -1,4 +1,6 @@
 // A line's head: its letter, and the place behind its first field.
+#![tactic(auto)]
+
 ghost use Rattle.std.specs.Prelude.{◌≡◌, false, ◌-◌, ◌≤◌, ◌<◌, length, take, drop};
 ghost use Rattle.lines.specs.Records.{letter_in};
 ghost use Rattle.heads.specs.Heads.{HeadIs, HeadAt};
@@ -17,7 +19,7 @@ fn letter_in(s: &[u8], start: usize, end: usize) -> u8
 }
 
 // The letter of a line and the place behind its first field; `more` where that is a letter and a comma, in a sheet that ends in LF.
-#[derive(Drop)]
+#[derive(Clone, Copy)]
 pub struct Head {
     pub letter: u8,
     pub end: usize,

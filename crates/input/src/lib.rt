@@ -1,4 +1,6 @@
 // Document 01: whether the program `carbon` read the sheet from standard input to its end.
+#![tactic(auto)]
+
 ghost use Rattle.std.specs.Prelude.{◌≡◌};
 ghost use Rattle.input.specs.End.{at_end};
 

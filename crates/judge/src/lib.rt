@@ -1,4 +1,6 @@
 // Document 01, "Sheets sent back": a line judged by its letter, under the lines above it.
+#![tactic(auto)]
+
 ghost use Rattle.std.specs.Prelude.{◌≡◌};
 ghost use Rattle.quantity.specs.Limits.{limits};
 ghost use Rattle.sheet.specs.Kinds.{kind_of};

@@ -1,5 +1,7 @@
 // Document 01, "Sheets sent back": the verdict of a sheet by rows 1 to 14, from its bytes or from the records that a caller lends. Its lines are judged
 // and noted as those of a sheet that is reckoned; nothing is weighed.
+#![tactic(auto)]
+
 ghost use Rattle.std.specs.Prelude.{◌≡◌, ◌+◌, ◌≤◌, ◌<◌, ltb, length};
 ghost use Rattle.quantity.specs.Limits.{limits};
 ghost use Rattle.lines.specs.Words.{ReadAt};
@@ -18,7 +20,7 @@ use works::judging::line_refusal;
 
 // The first refusal by rows 1 to 14 and its line, 0 where there is none; of an accepted sheet how many lines and how many bytes it has, 0 of a refused
 // one.
-#[derive(Drop)]
+#[derive(Clone, Copy)]
 pub struct Judged {
     pub refusal: Refusal,
     pub line: usize,

@@ -1,5 +1,7 @@
 // Document 01, "The sheet": rows 5 to 13 of a P line, of a B line and of a G line; the other kinds have crates of their own. A function has
 // its kind's row of the table of kinds, a step a field from the left, and then what the lines above must say.
+#![tactic(auto)]
+
 ghost use Rattle.std.specs.Prelude.{◌≡◌};
 ghost use Rattle.quantity.specs.Limits.{limits};
 ghost use Rattle.sheet.specs.Kinds.{Process, BoughtPrecursor, OwnGood};

@@ -1,4 +1,6 @@
 // Document 01, "Sheets sent back", row 15: whether a whole-gram figure of a reckoning is 2^63 or more.
+#![tactic(auto)]
+
 ghost use Rattle.std.specs.Prelude.{◌≡◌, ◌<◌};
 ghost use Rattle.goods.specs.ByProcess.{SIZE, figures};
 ghost use Rattle.large_figures.specs.Large.{any_large, large_rows, large_totals, large};

@@ -1,4 +1,6 @@
 // Document 01, "The report": its last line, `T,left,entered,raised,uncredited`, written into a lent space.
+#![tactic(auto)]
+
 ghost use Rattle.std.specs.Prelude.{◌≡◌, ◌+◌, ◌≤◌, ◌<◌, length, nat_abs};
 ghost use Rattle.quantity.specs.Limits.{whole_grams};
 ghost use Rattle.decimal.specs.Writing.{Put};
@@ -11,7 +13,7 @@ use quantity::{Grams, SignedGrams};
 use space::put_byte;
 
 // What the last line shows: the totals of the works.
-#[derive(Drop)]
+#[derive(Clone, Copy)]
 pub struct LastLine {
     pub left: Grams,
     pub entered: SignedGrams,

@@ -1,4 +1,6 @@
 // The figures of a works while its lines are read: document 01, "Attribution". Each line is booked as one entry.
+#![tactic(auto)]
+
 ghost use Rattle.std.specs.Prelude.{◌≡◌, pos, nat_abs, ◌+ℤ◌, ◌-ℤ◌, ◌+◌, ◌≤◌, ◌<◌};
 ghost use Rattle.quantity.specs.Limits.{whole_grams, line_grams};
 ghost use Rattle.goods.specs.Sums.{sum_to};
@@ -13,7 +15,7 @@ use goods::{GramsByProcess, SIZE, SignedGramsByProcess};
 use quantity::{Grams, SignedGrams};
 
 // What one line moves, in grams. Process 0 is outside the works.
-#[derive(Drop)]
+#[derive(Clone, Copy)]
 pub struct Entry {
     // the process charged, and the process credited
     pub charged: usize,
@@ -54,14 +56,14 @@ pub fn nothing() -> Entry
 }
 
 // The grams of the whole works: what entered it, less what left it, and what stays uncredited.
-#[derive(Drop)]
+#[derive(Clone, Copy)]
 pub struct Totals {
     pub entered: SignedGrams,
     pub uncredited: Grams,
 }
 
 // The grams of each process by its number, and those of the whole works.
-#[derive(Drop)]
+#[derive(Clone, Copy)]
 pub struct Ledger {
     pub balances: SignedGramsByProcess,
     pub indirect: GramsByProcess,
@@ -124,7 +126,7 @@ pub fn enter(entered: &mut i64, e: Entry)
 }
 
 // A balance raised to zero where it is below: the outcome, and the grams added.
-#[derive(Drop)]
+#[derive(Clone, Copy)]
 pub struct Raised {
     pub direct: Grams,
     pub raised: Grams,

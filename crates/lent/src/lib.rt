@@ -1,4 +1,6 @@
 // Document 02, ticket 1: records as callers lend them, nine words each, in the words of a line that was read. The definitions are in specs/.
+#![tactic(auto)]
+
 ghost use Rattle.std.specs.Prelude.{◌≡◌, ◌+◌, ◌^◌, ◌≤◌, ◌<◌, min, eqb, length, drop, get_or};
 ghost use Rattle.lent.specs.AsRead.{LentAt};
 ghost use Rattle.lines.specs.Words.{word, words};

@@ -1,4 +1,5 @@
 // Document 01, "The sheet": lines, fields and records, whatever kinds of lines a list has. The definitions are in specs/.
+#![tactic(auto)]
 
 // As many fields as the longest line has after its first.
 pub const WORDS: usize = 8;
@@ -14,7 +15,7 @@ pub const OTHER: u64 = CAP + 2;
 
 // A line that was read: the letter that its first field is, 0 for another first field; how many fields follow it, the words of the
 // first eight of them, and the place of its LF, or of the sheet's end where it lacks it.
-#[derive(Drop)]
+#[derive(Clone, Copy)]
 pub struct LineRead {
     pub letter: u8,
     pub count: usize,

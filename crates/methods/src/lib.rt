@@ -1,4 +1,6 @@
 // Document 01, "Source streams": the fields of an S line from code on, judged by the rules of one method.
+#![tactic(auto)]
+
 ghost use Rattle.std.specs.Prelude.{◌≡◌};
 ghost use Rattle.sheet.specs.Kinds.{combustion, process_emission, mass_balance};
 ghost use Rattle.checks.specs.Numbers.{refusal_number};

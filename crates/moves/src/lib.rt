@@ -1,4 +1,6 @@
 // Document 01, "Attribution": what a source stream and a bought precursor move, and what of it enters the works and leaves it.
+#![tactic(auto)]
+
 ghost use Rattle.std.specs.Prelude.{◌≡◌, ◌≤◌, nat_abs};
 ghost use Rattle.ledger.specs.Moved.{stream_moved, bought_moved};
 

@@ -1,4 +1,6 @@
 // One line more: the output that a P line states, the kilograms that a G line takes.
+#![tactic(auto)]
+
 ghost use Rattle.std.specs.Prelude.{◌≡◌, ◌≤◌};
 ghost use Rattle.ledger.specs.Columns.{AtMost};
 ghost use Rattle.quantity.specs.Limits.{limits};

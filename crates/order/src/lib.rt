@@ -1,5 +1,7 @@
 // Document 01, "Sheets sent back", rows 8 to 13: the line under the lines above it, step by step. A step after a refusal keeps that
 // refusal.
+#![tactic(auto)]
+
 ghost use Rattle.std.specs.Prelude.{◌≡◌};
 ghost use Rattle.checks.specs.Numbers.{refusal_number};
 ghost use Rattle.checks.specs.Steps.{or_else, next_number, named_number, ends_number, standard_number, good_number};

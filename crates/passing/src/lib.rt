@@ -1,4 +1,6 @@
 // Document 01, "Goods and precursors": one process passes portions of its pools on to its takers. The definitions are in goods/specs/.
+#![tactic(auto)]
+
 ghost use Rattle.std.specs.Prelude.{◌≡◌, ◌≤◌, length};
 ghost use Rattle.goods.specs.ByProcess.{PROCESSES, SIZE};
 ghost use Rattle.goods.specs.Settling.{pairs, CanPassOn, PassedOn};
@@ -8,7 +10,7 @@ use quantity::{Grams, Kilos};
 use shares::{BothGrams, portions};
 
 // The pools once a process has passed its good on, and what is left of its own.
-#[derive(Drop)]
+#[derive(Clone, Copy)]
 pub struct Passed {
     pub direct: GramsByProcess,
     pub indirect: GramsByProcess,

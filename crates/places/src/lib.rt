@@ -1,11 +1,13 @@
 // Where a line stands in the sheet, and the offending line had back.
+#![tactic(auto)]
+
 ghost use Rattle.std.specs.Prelude.{◌≡◌, ◌+◌, ◌≤◌, length, drop};
 ghost use Rattle.lines.specs.Lines.{lines_of, line_start};
 ghost use Rattle.lines.specs.Words.{line_length};
 ghost use Rattle.places.specs.LinePlace.{offending_line, part_of, behind};
 
 // Where a line stands in the sheet, without its LF.
-#[derive(Drop)]
+#[derive(Clone, Copy)]
 pub struct Place {
     pub start: usize,
     pub length: usize,

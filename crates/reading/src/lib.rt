@@ -1,4 +1,6 @@
 // A sheet read from the top, each line judged and noted: one pass over the bytes.
+#![tactic(auto)]
+
 ghost use Rattle.gathering.specs.Gathered.{ReadOf, NoKilos};
 
 use checks::refusals::{Refusal, refusal_number};

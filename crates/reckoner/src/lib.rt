@@ -1,4 +1,6 @@
 // Document 01, "Attribution", "Goods and precursors" and the figures of "The report": a sheet's bytes to its reckoning.
+#![tactic(auto)]
+
 ghost use Rattle.std.specs.Prelude.{pos, ◌+ℤ◌, ◌≡◌};
 ghost use Rattle.closing.specs.Closing.{Ready};
 ghost use Rattle.reckoner.specs.Reckoned.{Reckoned};

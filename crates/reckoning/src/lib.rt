@@ -1,4 +1,6 @@
 // What the reckoner gives of a sheet: document 01, "Sheets sent back" and the figures of "The report".
+#![tactic(auto)]
+
 ghost use Rattle.std.specs.Prelude.{◌≡◌};
 ghost use Rattle.reckoning.specs.Refused.{refused_by};
 
@@ -7,7 +9,7 @@ use goods::{GramsByProcess, KilosByProcess, SIZE};
 use quantity::{Grams, SignedGrams};
 
 // Grams of each process by its number, and the totals `left` and `raised` of the works.
-#[derive(Drop)]
+#[derive(Clone, Copy)]
 pub struct Closing {
     // attribution, and the grams that raised the balance to zero
     pub direct: GramsByProcess,
@@ -23,7 +25,7 @@ pub struct Closing {
 }
 
 // The reckoning of a sheet: the refusal and its line, or the figures of each process by its number and the totals.
-#[derive(Drop)]
+#[derive(Clone, Copy)]
 pub struct Reckoning {
     pub refusal: Refusal,
     pub line: usize,

@@ -1,4 +1,6 @@
 // Document 02, ticket 1: the lines of lent records, measured, and written into a lent space. The definitions are in lent.
+#![tactic(auto)]
+
 ghost use Rattle.std.specs.Prelude.{◌≡◌, ◌∷◌, ◌++◌, [], ◌+◌, ◌≤◌, min, length};
 ghost use Rattle.quantity.specs.Limits.{limits};
 ghost use Rattle.decimal.specs.Writing.{Put};

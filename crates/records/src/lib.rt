@@ -1,4 +1,6 @@
 // A line read from the sheet's bytes: its letter, then its fields.
+#![tactic(auto)]
+
 ghost use Rattle.std.specs.Prelude.{◌≡◌, ◌≤◌, ◌<◌, length};
 ghost use Rattle.lines.specs.Words.{ReadAt};
 ghost use Rattle.heads.specs.Left.{comma_at};

@@ -1,4 +1,6 @@
 // Document 01, "The report": the lines of a reckoning's report, written into a lent space.
+#![tactic(auto)]
+
 ghost use Rattle.std.specs.Prelude.{◌≡◌, ◌+◌, ◌≤◌, ◌<◌, length};
 ghost use Rattle.decimal.specs.Writing.{Put};
 ghost use Rattle.report.specs.Report.{specific};
@@ -25,7 +27,7 @@ fn specific_figure(pool: Grams, output: Kilos) -> Figure
 }
 
 // What the line of a process shows, and its output.
-#[derive(Drop)]
+#[derive(Clone, Copy)]
 pub struct Row {
     pub process: usize,
     pub output: Kilos,

@@ -1,4 +1,6 @@
 // Document 01, "Goods and precursors": pools settled process by process. The definitions are in goods/specs/.
+#![tactic(auto)]
+
 ghost use Rattle.std.specs.Prelude.{◌≡◌, ◌≤◌, length};
 ghost use Rattle.goods.specs.ByProcess.{PROCESSES, SIZE, figures, NoneOutside};
 ghost use Rattle.goods.specs.Settling.{pairs, any_taker, Settleable, PoolsSettled};
@@ -23,7 +25,7 @@ fn has_takers(kilos: &KilosByPair, from: usize, count: usize) -> bool
 }
 
 // The pools of all processes, and what is left of each.
-#[derive(Drop)]
+#[derive(Clone, Copy)]
 pub struct Settled {
     pub direct_pools: GramsByProcess,
     pub indirect_pools: GramsByProcess,

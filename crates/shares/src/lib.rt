@@ -1,11 +1,13 @@
 // Document 01, "Goods and precursors": ⌊P × C/A⌋, exact where P × C passes 64 bits.
+#![tactic(auto)]
+
 ghost use Rattle.std.specs.Prelude.{◌≡◌, ◌+◌, ◌-◌, ◌*◌, ◌/◌, ◌≤◌, ◌<◌};
 ghost use Rattle.shares.specs.Ranges.{PartRange, BitRange};
 
 use quantity::{Grams, Kilos};
 
 // A division under way: the dividend so far is quotient × whole + remainder.
-#[derive(Drop)]
+#[derive(Clone, Copy)]
 struct Division {
     quotient: u64,
     remainder: u64,
@@ -28,7 +30,7 @@ fn with_bit(d: Division, bit: u64, part: u64, whole: u64) -> Division
 }
 
 // The quotients of two numbers times one part by one whole.
-#[derive(Drop)]
+#[derive(Clone, Copy)]
 pub struct TwoQuotients {
     pub first: u64,
     pub second: u64,
@@ -61,7 +63,7 @@ pub fn quotients(first: u64, second: u64, part: u64, whole: u64) -> TwoQuotients
 }
 
 // Direct and indirect grams of one process: its pools, a portion of them, or what is left.
-#[derive(Drop)]
+#[derive(Clone, Copy)]
 pub struct BothGrams {
     pub direct: Grams,
     pub indirect: Grams,

@@ -1,4 +1,6 @@
 // Document 02, ticket 1: the records of a sheet, put into a lent list of numbers.
+#![tactic(auto)]
+
 ghost use Rattle.std.specs.Prelude.{◌≡◌};
 ghost use Rattle.answers.specs.Given.{gives};
 ghost use Rattle.record_exchange.specs.Exchange.{records_read};

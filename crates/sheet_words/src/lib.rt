@@ -1,4 +1,6 @@
 // Document 02, ticket 1: the words of the records of an accepted sheet, nine a record, put into a lent list. The definitions are in lent.
+#![tactic(auto)]
+
 ghost use Rattle.std.specs.Prelude.{◌≡◌, ◌+◌, ◌≤◌, length};
 ghost use Rattle.quantity.specs.Limits.{limits};
 ghost use Rattle.decimal.specs.Writing.{Put};

@@ -1,4 +1,6 @@
 // Document 02, ticket 1: the sheet of lent records, written into a lent space.
+#![tactic(auto)]
+
 ghost use Rattle.std.specs.Prelude.{◌≡◌};
 ghost use Rattle.answers.specs.Given.{gives};
 ghost use Rattle.record_exchange.specs.Exchange.{sheet_written};

@@ -1,4 +1,6 @@
 // Short numbers and `-`, in a sheet whose last byte is LF: no digit is the last byte, and so no loop over digits asks for the sheet's end.
+#![tactic(auto)]
+
 ghost use Rattle.std.specs.Prelude.{◌≡◌, true, ◌<◌, length, get_or};
 ghost use Rattle.fields.specs.Scan.{EndsInLF};
 ghost use Rattle.short_fields.specs.Short.{is_leading, DigitsAt, ended_word, short_at};
@@ -7,14 +9,14 @@ use fields::{is_digit, wide};
 use lines::DASH;
 
 // Digits that a field starts with: their value, and the place after them.
-#[derive(Drop)]
+#[derive(Clone, Copy)]
 struct Digits {
     value: u64,
     end: usize,
 }
 
 // A short number or `-`: its word, and the place of the comma behind it, or of the LF behind the line's last field. Or another field.
-#[derive(Drop)]
+#[derive(Clone, Copy)]
 pub enum ShortRead {
     Another,
     Next(u64, usize),

@@ -1,4 +1,6 @@
 // Document 01, "Source streams": rows 5 to 13 of an S line. Its fields from code on go by its method.
+#![tactic(auto)]
+
 ghost use Rattle.std.specs.Prelude.{◌≡◌};
 ghost use Rattle.quantity.specs.Limits.{limits};
 ghost use Rattle.sheet.specs.Kinds.{SourceStream};

@@ -1,4 +1,6 @@
 // Bytes written into a lent space. What is put where is said by the definition of `Put` in decimal.
+#![tactic(auto)]
+
 ghost use Rattle.std.specs.Prelude.{◌∷◌, [], ◌≤◌, ◌<◌, length, take};
 ghost use Rattle.decimal.specs.Writing.{Put};
 

@@ -1,6 +1,8 @@
 // Document 01, "Source streams": the standard value of each code, 0 for a code that has none. The arrays hold the printed
 // figures divided by 10, 100 and 1,000, each in 16 bits (document 02, ticket 3). An index is reckoned in a byte for the
 // sake of the compiled code; docs/DECISIONS.md says why.
+#![tactic(auto)]
+
 ghost use Rattle.std.specs.Prelude.{◌≡◌, ◌≤◌};
 ghost use Rattle.quantity.specs.Standard.{fuel_of, carbonate_of};
 

@@ -1,4 +1,6 @@
 // A step from field to field of a line: the next field, if it is a short one.
+#![tactic(auto)]
+
 ghost use Rattle.std.specs.Prelude.{◌≡◌, ◌≤◌};
 ghost use Rattle.steps.specs.Steps.{Ahead, stayed, step_of};
 
@@ -6,7 +8,7 @@ use short_fields::{ShortRead, short_field};
 
 // A step from field to field: the word that it read, how many fields are read by now, and the place behind the last of them;
 // `more` where the next field is tried there, `done` where the line ends there.
-#[derive(Drop)]
+#[derive(Clone, Copy)]
 pub struct Step {
     pub word: u64,
     pub count: usize,

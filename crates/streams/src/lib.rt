@@ -1,4 +1,6 @@
 // Document 01, "Source streams", and document 02, ticket 2: the four methods, each step rounded.
+#![tactic(auto)]
+
 ghost use Rattle.std.specs.Prelude.{◌≡◌, ◌≤◌, pos, neg_ℤ, nat_abs};
 ghost use Rattle.quantity.specs.Streams.{oxidised_grams, combustion_grams, process_grams, carbon_grams, grams_before_biomass};
 ghost use Rattle.quantity.specs.Streams.{fossil_grams, stream_grams};

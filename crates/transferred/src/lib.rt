@@ -1,4 +1,6 @@
 // Document 01, "Attribution": what heat, waste gas and electricity move, and what of it enters the works, leaves it and stays uncredited.
+#![tactic(auto)]
+
 ghost use Rattle.std.specs.Prelude.{◌≡◌, ◌-◌, ◌≤◌};
 ghost use Rattle.goods.specs.Sums.{only_at};
 ghost use Rattle.quantity.specs.Weights.{waste_gas_charge, waste_gas_credit};

@@ -1,4 +1,6 @@
 // The functions that programs in other languages link: include/wiltoresh.h declares them.
+#![tactic(auto)]
+
 ghost use Rattle.std.specs.Prelude.{◌≡◌, ◌≤◌};
 ghost use lib.ListN;
 ghost use Rattle.quantity.specs.Limits.{limits};

@@ -1,4 +1,6 @@
 // The writer and the reader of records, for programs in other languages: include/wiltoresh.h declares them.
+#![tactic(auto)]
+
 ghost use Rattle.std.specs.Prelude.{◌≡◌};
 ghost use Rattle.answers.specs.Given.{gives};
 ghost use Rattle.record_exchange.specs.Exchange.{sheet_written, records_read};

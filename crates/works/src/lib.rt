@@ -1,4 +1,6 @@
 // The state: what the lines of a sheet say so far, and a line judged under them.
+#![tactic(auto)]
+
 pub mod judging;
 
 use goods::KilosByProcess;
@@ -6,7 +8,7 @@ use ledger::Ledger;
 
 // What the lines above say: how many they are, how many of them are P lines, the kilograms of each process's output and
 // those that G lines take of it, and the grams that they move.
-#[derive(Drop)]
+#[derive(Clone, Copy)]
 pub struct Works {
     pub lines: usize,
     pub count: usize,

@@ -1,4 +1,6 @@
 // Document 01, "The report": the report of a sheet, written into a lent space.
+#![tactic(auto)]
+
 ghost use Rattle.std.specs.Prelude.{◌≡◌, ◌≤◌, length};
 ghost use Rattle.quantity.specs.Limits.{limits};
 ghost use Rattle.decimal.specs.Writing.{Put};
