@@ -1,0 +1,46 @@
+-- `weigh_electricity` meets its contract. Assumes nothing.
+use mathlib.Core.Path.{◌≡◌, refl, ◌∙◌}
+use Prim.Native.Nat.{ℕ, ◌≤◌}
+use native.Mathlib.Omega.{arith}
+use lib.ListN.{length}
+use Rattle.lines.specs.Words.{WORDS}
+use Rattle.lines.specs.declared.LineRead.{LineRead}
+use Rattle.quantity.specs.Limits.{limits}
+use Rattle.quantity.specs.Weights.{weight}
+use Rattle.sheet.specs.Kinds.{Electricity, letter, rules}
+use Rattle.ledger.specs.Moved.{electricity_moved}
+use Rattle.entries.specs.Weighed.{electricity_of}
+use Rattle.entries.specs.Entries.{entry}
+use Rattle.entries.specs.Read.{record_read, LineKeeps}
+use Rattle.entries.proofs.Ranges.{in_rules, are_words}
+use Rattle.entries.proofs.OfKind.{w, kind_at, is_at, entry_at}
+use Rattle.entries.proofs.weigh_electricity.Goals as goal
+use Rattle.entries.proofs.weigh_electricity.Goals.{Start}
+
+-- `E,from,to,kWh,factor`
+record ElectricityLine (l : LineRead) : Type 0 where
+  ranges : (w l 2 ≤ 100000000000) × (w l 3 ≤ 2000000)
+  entry_is : {g : ℕ} → g ≡ weight (w l 2) (w l 3) → electricity_moved (w l 0) (w l 1) g ≡ entry (record_read l)
+
+electricity_line : (l : LineRead) → length l.words ≡ WORDS → LineKeeps l → l.letter ≡ letter Electricity → ElectricityLine l
+unfolding rules electricity_of
+electricity_line l sized keeps e =
+    let k = kind_at l Electricity e in
+    let n = in_rules limits (record_read l) keeps.ranges Electricity k in
+    let v = are_words l sized keeps Electricity k in
+    record {
+      ranges = (omega (arith, (n.1.1.0 refl).high, v.1.1.0 refl), omega (arith, (n.1.1.1.0 refl).high, v.1.1.1.0 refl));
+      entry_is = λ g. rw (g, ← v.0 refl, ← v.1.0 refl, ← v.1.1.0 refl, ← v.1.1.1.0 refl)
+          (rw (is_at l Electricity e) at (entry_at l Electricity e));
+    }
+
+line : (c : Start) → ElectricityLine c.args.t1
+line c = electricity_line c.args.t1 (search rules) c.requires.line_keeps c.requires.letter_value
+
+pub electricity_weight-weight-requires : goal.electricity_weight-weight-requires
+electricity_weight-weight-requires c = (line c.before.before).ranges
+
+pub returns : goal.returns
+returns c =
+    let k = c.before.before.before in
+    c.electricity_entry.ensures ∙ (line k.before.before.before).entry_is k.electricity_weight-weight.ensures.result_value

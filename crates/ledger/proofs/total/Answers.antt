@@ -1,0 +1,34 @@
+-- `ledger::total` meets its contract. The loop's invariant: the sum of the processes done. Assumes nothing.
+use mathlib.Core.Path.{◌≡◌, refl}
+use Prim.Native.Nat.{ℕ, ◌+◌, ◌-◌, ◌≤◌}
+use native.Mathlib.Numerals.{add-one}
+use native.Mathlib.Omega.{arith}
+use lib.ListN.{get_or}
+use Rattle.goods.specs.Sums.{sum_to}
+use Rattle.goods.proofs.Sums.{sum_mono, sum_suc}
+use Rattle.ledger.proofs.total.Goals as goal
+
+-- one process more
+next : (n : ℕ) (f : ℕ → ℕ) → sum_to (n + 1) f ≡ sum_to n f + f (n + 1)
+next n f = rw add-one (sum_suc n f)
+
+pub loop-done-init : goal.loop-done-init
+unfolding sum_to
+loop-done-init c = (omega arith, refl)
+
+pub overflow_add-sum : goal.overflow_add-sum
+overflow_add-sum c =
+    let k = c.before.before in
+    let f : ℕ → ℕ = λ p. get_or k.args.a.now p 0 in
+    let most = sum_mono (k.loop-done.done + 1) k.args.count f (omega arith) in
+    record { fits = omega (arith, next k.loop-done.done f, most, k.loop-done.invariant.1, k.requires.a_bound) }
+
+pub loop-done-preserved : goal.loop-done-preserved
+loop-done-preserved c =
+    let k = c.before.before in
+    (omega arith, omega (arith, next k.loop-done.done (λ (p : ℕ). get_or k.args.a.now p 0), k.loop-done.invariant.1))
+
+pub returns : goal.returns
+returns c =
+    let e : c.loop-done.done ≡ c.args.count = omega arith in
+    rw (← e) c.loop-done.invariant.1

@@ -1,0 +1,19 @@
+-- `full_words` meets its contract. Assumes nothing.
+use mathlib.Core.Path.{sym}
+use Rattle.lent.proofs.Full.{full_words_lem}
+use Rattle.lent.proofs.full_words.Goals as goal
+
+pub returns : goal.returns
+returns c =
+    let start = c.before.before.before.before.before.before.before.before.before.before.before.before.before.before.before.before.before in
+    let law = full_words_lem start.args.lent.now start.requires.lent_len start.requires.bound in
+    rw (
+      c.lent_word.ensures,
+      c.lent_word-2.ensures,
+      c.lent_word-3.ensures,
+      c.lent_word-4.ensures,
+      c.lent_word-5.ensures,
+      c.lent_word-6.ensures,
+      c.lent_word-7.ensures,
+      c.lent_word-8.ensures,
+    ) (sym law)

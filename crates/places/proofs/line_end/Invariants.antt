@@ -1,0 +1,14 @@
+-- `line_end` meets its contract. Assumes nothing.
+use mathlib.Core.Path.{◌≡◌, refl}
+use Prim.Native.Nat.{◌+◌, ◌-◌, ◌≤◌}
+use native.Mathlib.Omega.{arith}
+use lib.ListN.{length, drop}
+use Rattle.lines.specs.Words.{line_length}
+use Rattle.places.proofs.NextLine.{line_past, line_lf, line_none}
+use Rattle.places.proofs.line_end.Given as goal
+
+abbrev pub invariant-loop-end : goal.invariant-loop-end
+invariant-loop-end l = (l.start ≤ l.end) × (l.end ≤ length l.s) × (l.end + line_length (drop l.end l.s) ≡ l.start + line_length (drop l.start l.s))
+
+abbrev pub decreases-loop-end : goal.decreases-loop-end
+decreases-loop-end l = length l.s - l.end

@@ -1,0 +1,28 @@
+-- `settling::has_takers` meets its contract. The loop's invariant: none up to `to` takes anything. The measure is how many processes are left. Assumes
+-- nothing.
+use Prim.Native.Nat.{◌+◌, ◌-◌, ◌≤◌}
+use mathlib.Core.Path.{◌≡◌, sym, ◌∙◌}
+use mathlib.Core.Bool.{false}
+use native.Mathlib.Omega.{arith}
+use Rattle.goods.specs.Settling.{pairs, any_taker}
+use Rattle.settling.proofs.Takers.{no_taker, none_next, taker_found}
+use Rattle.settling.proofs.has_takers.Goals as goal
+
+pub loop-to-init : goal.loop-to-init
+loop-to-init c = (omega arith, c.requires.0, no_taker _ c.args.from c.args.from (omega arith))
+
+pub returns-then-kilos-from-gt0 : goal.returns-then-kilos-from-gt0
+returns-then-kilos-from-gt0 c =
+    let h = c.before.before.before in
+    sym (taker_found _ h.args.from h.loop-to.to h.args.count h.loop-to.invariant.0 (omega arith) (omega arith))
+
+pub loop-to-preserved : goal.loop-to-preserved
+loop-to-preserved c =
+    let h = c.before.before.before in
+    (omega arith, omega arith, none_next _ h.args.from h.loop-to.to h.loop-to.invariant.2 (omega arith))
+
+pub returns : goal.returns
+returns c =
+    let h = c.before in
+    let all : h.loop-to.to ≡ h.args.count = omega arith in
+    sym (rw all at h.loop-to.invariant.2)

@@ -1,0 +1,17 @@
+-- `leading_digits` meets its contract. Assumes nothing.
+use mathlib.Core.Path.{◌≡◌, sym, ◌∙◌}
+use mathlib.Core.Bool.{true}
+use Prim.Native.Nat.{ℕ, ◌+◌, ◌-◌, ◌*◌, min, ◌<◌}
+use native.Mathlib.Omega.{arith}
+use lib.ListN.{length, get_or}
+use Rattle.lines.specs.Words.{CAP}
+use Rattle.fields.specs.Scan.{Scanning}
+use Rattle.fields.proofs.Scanning.{not_last, digit_range, none_scanned, digit_scanned}
+use Rattle.short_fields.proofs.Short.{leading_range, leading_digit}
+use Rattle.short_fields.proofs.leading_digits.Given as goal
+
+abbrev pub invariant-loop-value : goal.invariant-loop-value
+invariant-loop-value l = Scanning l.s l.start l.value true l.end × (l.end < length l.s) × (l.value < CAP)
+
+abbrev pub decreases-loop-value : goal.decreases-loop-value
+decreases-loop-value l = length l.s - l.end

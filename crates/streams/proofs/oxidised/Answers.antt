@@ -1,0 +1,11 @@
+-- `oxidised` meets its contract: a share of ten-thousandths is no more than the whole. Assumes nothing.
+use Rattle.quantity.proofs.Small.{share_fits, share_le}
+use Rattle.streams.proofs.oxidised.Goals as goal
+
+pub round_ten_thousandths-requires : goal.round_ten_thousandths-requires
+round_ten_thousandths-requires c = share_fits _ _ c.requires.0 c.requires.1
+
+pub returns : goal.returns
+returns c =
+    let e = c.round_ten_thousandths.ensures.value in
+    record { result_value = e; bounded = rw e (share_le _ _ 1000000000000000 c.requires.0 c.requires.1) }

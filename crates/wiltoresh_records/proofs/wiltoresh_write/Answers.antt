@@ -1,0 +1,5 @@
+-- `wiltoresh_write` meets its contract. Assumes nothing.
+use Rattle.wiltoresh_records.proofs.wiltoresh_write.Goals as goal
+
+pub returns : goal.returns
+returns c = c.write-answer.ensures

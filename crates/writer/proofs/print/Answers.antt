@@ -1,0 +1,53 @@
+-- `writer::print` meets its contract. Assumes nothing.
+use borrow.Author.Rules.{rules}
+use mathlib.Core.Path.{sym, ◌∙◌}
+use Prim.Native.Nat.{ℕ, ◌+◌, ◌≤◌}
+use native.Mathlib.Omega.{arith}
+use lib.ListN.{length}
+use mathlib.Core.List.{List}
+use Rattle.decimal.specs.Writing.{Put}
+use Rattle.decimal.proofs.Writing.{length_written}
+use Rattle.answers.specs.Given.{LONGEST}
+use Rattle.writer.proofs.Job.{can_be_written, report_short, printed_refusal, printed_report}
+use Rattle.writer.proofs.print.Goals as goal
+use Rattle.writer.proofs.print.Goals.{After-put_refusal-arg-1, After-put_report-arg-1}
+
+-- the array has LONGEST places
+room : (c : After-put_report-arg-1) → LONGEST ≤ length c.args.space.now
+room c = search rules
+
+room_refused : (c : After-put_refusal-arg-1) → LONGEST ≤ length c.args.space.now
+room_refused c = search rules
+
+-- what is put into a space lies in it
+put_inside : {space bytes after : List ℕ} {n : ℕ} → Put space 0 bytes after n → n ≤ length space → n ≤ length after
+put_inside {space} {bytes} p h =
+    let l : 0 + length bytes ≤ length space = omega (arith, p.place) in
+    rw (p.bytes_are, length_written space 0 bytes l) h
+
+pub returns-then-number-ne0 : goal.returns-then-number-ne0
+returns-then-number-ne0 c =
+    let k = c.before.before.before in
+    let number = k.refusal_number-number.ensures in
+    let some = c.if-number-ne0.true in
+    let before = c.args.space.now in
+    let put = c.put_refusal.ensures in
+    let inside = put_inside put.put (omega (arith, put.bounded, room_refused c.before)) in
+    record { put = rw (printed_refusal _ before _ k.reckon-r.ensures.reckoned (λ z. some (number ∙ z))) (rw number at put.put); bounded = inside }
+
+pub put_report-requires : goal.put_report-requires
+put_report-requires c =
+    let k = c.before.before in
+    let zero = sym k.refusal_number-number.ensures ∙ c.if-number-ne0.false in
+    let answer = k.reckon-r.ensures.reckoned in
+    let space = c.args.space.now in
+    (can_be_written _ _ (answer.figured zero), omega (arith, report_short _ space _ answer zero, room c))
+
+pub returns : goal.returns
+returns c =
+    let k = c.before.before.before in
+    let zero = sym k.refusal_number-number.ensures ∙ c.if-number-ne0.false in
+    let answer = k.reckon-r.ensures.reckoned in
+    let before = c.args.space.now in
+    let put = c.put_report.ensures in
+    record { put = rw (printed_report _ before _ answer zero) put; bounded = put_inside put (omega (arith, report_short _ before _ answer zero, put.place, room c.before)) }
