@@ -4,7 +4,7 @@
 usage: respell.py [--list] [FOLDER]
 
 FOLDER is the top of the repository, the present folder where none is named. It reads crates/*/specs and crates/*/proofs for the
-names that they declare, and writes .rt, .antt and .edit files and the pages of docs in place: commit first. A name keeps its
+names that they declare, and writes .rt, .antt and .edit files and the pages README.md and docs/*.md in place: commit first. A name keeps its
 spelling where a library of the toolchain has it, or where it begins with a capital letter. `lineStart` and `line-start` become
 `line_start`; a lemma that would have its definition's name gets `_lem`: these stand in the lists MEETING and MEETING_IN.
 
@@ -66,6 +66,10 @@ OWN = re.compile(r"Rattle\.(\w+)\.")
 ANSWER = re.compile(r"^\s*(?:abbrev |pub )*(\S+) : tie\.")
 
 
+# Files whose names are those of goals, which the toolchain gives.
+GOALS = ("/Answers.antt", "/Invariants.antt")
+
+
 def snake(name):
     words = name.replace("-", "_")
     words = re.sub(r"(?<=[a-z0-9])([A-Z]+)", lambda m: "_" + m[1].lower(), words)
@@ -82,7 +86,7 @@ def files(top, *patterns):
     found = []
     for p in patterns:
         found += glob.glob(os.path.join(top, p), recursive=True)
-    return sorted(f for f in set(found) if "/out/" not in f and os.path.isfile(f))
+    return sorted(f for f in set(found) if "/out/" not in f and os.path.isfile(f) and not f.endswith(GOALS))
 
 
 def declared(top):
@@ -134,9 +138,7 @@ def turned(path, text, new):
         # an answer's own name is the toolchain's
         kept = {m[1] for m in map(ANSWER.match, text.split("\n")) if m}
         new = {k: v for k, v in new.items() if k not in kept}
-    if not path.endswith(".md"):
-        return turn(text, new)
-    return re.sub(r"`[^`\n]+`", lambda m: turn(m[0], new), text)
+    return turn(text, new)
 
 
 def turned_edit(path, text, new):
@@ -157,6 +159,15 @@ def turned_edit(path, text, new):
     return "\n".join(lines)
 
 
+def turned_page(text, there):
+    """A page's names between backquotes."""
+
+    def name(m):
+        return m[0] if m[0] in there or m[0].endswith((".rt", ".antt", ".md")) else MEETING.get(m[0]) or (snake(m[0]) if snake(m[0]) in there else m[0])
+
+    return re.sub(r"`[^`\n]+`", lambda m: NAME.sub(name, m[0]), text)
+
+
 def main():
     arguments = [a for a in sys.argv[1:] if a != "--list"]
     top = arguments[0] if arguments else "."
@@ -172,6 +183,15 @@ def main():
             here = {}
         after = turned_edit(path, text, new) if path.endswith(".edit") else turned(path, text, {**new, **here})
         if after != text:
+            with open(path, "w", encoding="utf-8", newline="") as f:
+                f.write(after)
+    there = set()
+    for path in files(top, "crates/*/specs/**/*.antt", "crates/*/proofs/**/*.antt", "crates/*/src/**/*.rt"):
+        there |= set(NAME.findall(read(path)))
+    for path in files(top, "README.md", "docs/*.md", "reference/README.md", "callers/README.md"):
+        text = read(path)
+        after = turned_page(text, there)
+        if after != text and os.path.basename(path) != "PORT.md":
             with open(path, "w", encoding="utf-8", newline="") as f:
                 f.write(after)
 

@@ -6,7 +6,9 @@
 
 ghost use Rattle.std.specs.Prelude.{◌+◌, ◌≤◌, ◌<◌};
 
-use libc::{STDIN_FILENO, STDOUT_FILENO};
+use core::rt::Stdin;
+use input::read_full;
+use std::io;
 
 const HEADER: usize = 40;
 
@@ -105,7 +107,7 @@ fn round_trip(sheet: &[u8], number: usize, line: usize) -> bool {
 }
 
 // Whether a case, whose numbers are read, comes out as it should.
-fn holds(h: &[u8; HEADER]) -> bool {
+fn holds(stdin: &mut Stdin, h: &[u8; HEADER]) -> bool {
     let size = number_at(h, 0);
     let room = number_at(h, 8);
     let length = number_at(h, 32);
@@ -121,10 +123,10 @@ fn holds(h: &[u8; HEADER]) -> bool {
     let mut sheet = [0u8; SHEET];
     let mut wanted = [0u8; SPACE];
     let mut space = [FILL; SPACE];
-    if io::read_full(STDIN_FILENO, &mut sheet[..size]) != size {
+    if read_full(stdin, &mut sheet[..size]) != size {
         return false;
     }
-    if io::read_full(STDIN_FILENO, &mut wanted[..length]) != length {
+    if read_full(stdin, &mut wanted[..length]) != length {
         return false;
     }
     let a = writer::report(&sheet[..size], &mut space[..room]);
@@ -135,22 +137,20 @@ fn holds(h: &[u8; HEADER]) -> bool {
         & round_trip(&sheet[..size], number_at(h, 16), number_at(h, 24))
 }
 
-fn main() {
+fn main(rt: HostRuntime) -> io::Result<()> {
+    let mut stdin = rt.stdin();
     let mut header = [0u8; HEADER];
     let mut tried: usize = 0;
     let mut different: usize = 0;
     while tried < MOST {
-        if io::read_full(STDIN_FILENO, &mut header) != HEADER {
+        if read_full(&mut stdin, &mut header) != HEADER {
             break;
         }
         tried += 1;
-        if holds(&header) {
+        if holds(&mut stdin, &header) {
             continue;
         }
         different += 1;
     }
-    io::print_decimal(STDOUT_FILENO, tried as u64);
-    io::write_all(STDOUT_FILENO, b" cases, different: ");
-    io::print_decimal(STDOUT_FILENO, different as u64);
-    io::write_all(STDOUT_FILENO, b"\n");
+    println!(rt; "{tried} cases, different: {different}")
 }

@@ -7,15 +7,11 @@ use Rattle.answers.proofs.put_within.Goals as goal
 
 pub returns-then-space-length : goal.returns-then-space-length
 returns-then-space-length c =
-    let written = c.before.before.before in
-    let put = written.put_report-length.ensures in
-    let s = written.args in
-    rw c.refusal_number.ensures (short_within (bytes_held s.r) s.space.now (omega (arith, start_place put, c.if-space-length.true)))
+    let put = c.put_report-length.ensures in
+    rw c.refusal_number.ensures (short_within (bytes_held c.args.r) c.args.space.now (omega (arith, start_place put, c.if-space-length.true)))
 
 pub returns : goal.returns
 returns c =
-    let written = c.before.before.before.before.before.before.before in
-    let put = written.put_report-length.ensures in
-    let s = written.args in
-    written_within (bytes_held s.r) s.space.now (omega (arith, start_place put, c.if-space-length.false))
+    let put = c.put_report-length.ensures in
+    written_within (bytes_held c.args.r) c.args.space.now (omega (arith, start_place put, c.if-space-length.false))
     (copied put c.put_bytes.ensures)

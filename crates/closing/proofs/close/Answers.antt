@@ -1,5 +1,5 @@
 -- `closing::close` meets its contract. Assumes nothing.
-use mathlib.Core.Path.{◌≡◌, refl, sym, ap, ap₂, ◌∙◌, subst}
+use mathlib.Core.Path.{◌≡◌, sym, ap, ap₂, ◌∙◌, subst}
 use mathlib.Core.List.{List}
 use Prim.Native.Nat.{ℕ, ◌+◌, ◌≤◌, ◌<◌}
 use native.Mathlib.Omega.{arith}
@@ -7,110 +7,100 @@ use borrow.Author.Rules.{rules}
 use lib.ListN.{length, get_or}
 use Rattle.quantity.specs.Limits.{whole_grams}
 use Rattle.goods.specs.Sums.{sum_to}
-use Rattle.goods.specs.ByProcess.{SIZE, figures}
-use Rattle.goods.specs.Settling.{pairs, Settleable}
+use Rattle.goods.specs.ByProcess.{SIZE, figures, Column}
+use Rattle.goods.specs.Settling.{pairs, Settleable, PoolsSettled}
 use Rattle.goods.proofs.Sums.{sum_cong}
 use Rattle.ledger.specs.Columns.{together}
+use Rattle.ledger.specs.declared.Ledger.{Ledger}
 use Rattle.ledger.proofs.Columns.{column_inside}
-use Rattle.closing.specs.Closing.{own_direct, own_indirect}
+use Rattle.closing.specs.Closing.{own_direct, own_indirect, direct_held, Ready}
 use Rattle.closing.proofs.Pooling.{own_fits, settleable_cong, Pooled, pooled}
 use Rattle.closing.proofs.close.Goals as goal
-use Rattle.closing.proofs.close.Goals.{After-raise_all, After-settle-settled, After-total-total_raised, Start}
 
-indirect_size : (c : Start) → length c.args.t1.indirect.0 ≡ SIZE
-indirect_size c = search rules
+module _ {l : Ledger} {outputs kilos : List ℕ} {count : ℕ} (ready : Ready l outputs kilos count) where
+  -- balances are raised: a process has its own direct grams
+  own_is : {direct : List ℕ} → Column count (direct_held l) direct
+      → (k : ℕ) → 1 ≤ k → k ≤ count → together direct l.bought_direct.0 k ≡ own_direct l k
+  own_is c k a b = ap (λ (n : ℕ). n + get_or l.bought_direct.0 k 0) (c.at k a b)
 
--- balances are raised
-module _ (c : After-raise_all) where
-  abbrev start : Start
-  start = c.before.before.before.before.before
+  -- so what settling asks of the own grams is had
+  settleable : {direct : List ℕ} → Column count (direct_held l) direct
+      → Settleable count (figures outputs) (pairs kilos) (together direct l.bought_direct.0)
+  settleable c = settleable_cong (λ k a b. sym (own_is c k a b)) ready.direct
 
-  own_is : (k : ℕ) → 1 ≤ k → k ≤ start.args.count
-      → together c.raise_all.new.0 start.args.t1.bought_direct.0 k ≡ own_direct start.args.t1 k
-  own_is k l h = ap (λ (n : ℕ). n + get_or start.args.t1.bought_direct.0 k 0) (c.raise_all.ensures.direct.at k l h)
+  module _ {direct own_d pools_d lefts_d : List ℕ} (c : Column count (direct_held l) direct)
+      (e : Column count (together direct l.bought_direct.0) own_d) (p : PoolsSettled outputs kilos count own_d pools_d lefts_d) where
+    -- the direct pools are settled
+    direct_pooled : Pooled outputs kilos count (own_direct l) pools_d lefts_d
+    direct_pooled = pooled ready.direct (λ k a b. e.at k a b ∙ own_is c k a b) p
 
-  settleable : Settleable start.args.count (figures start.args.outputs.0) (pairs start.args.kilos.now)
-      (together c.raise_all.new.0 start.args.t1.bought_direct.0)
-  settleable = settleable_cong (λ k l h. sym (own_is k l h)) start.requires.direct
+    module _ {own_i pools_i lefts_i : List ℕ} (f : Column count (own_indirect l) own_i) (q : PoolsSettled outputs kilos count own_i pools_i lefts_i) where
+      -- the indirect pools are settled
+      indirect_pooled : Pooled outputs kilos count (own_indirect l) pools_i lefts_i
+      indirect_pooled = pooled ready.indirect f.at q
 
-pub total-total_raised-requires : goal.total-total_raised-requires
-total-total_raised-requires c =
-    let k = c.before.before in
-    record { count_bound = omega (arith, (start k).requires.few); a_bound = subst (λ (n : ℕ). n < whole_grams) (sym (sum_cong _ _ _ k.raise_all.ensures.raised.at)) (start k).requires.raised }
+      -- all that is left fits
+      left_fits : sum_to count (figures lefts_d) + sum_to count (figures lefts_i) < whole_grams
+      left_fits = omega (arith, ready.own, direct_pooled.kept, indirect_pooled.kept)
 
-pub add_all-requires : goal.add_all-requires
-add_all-requires c =
-    let k = c.before.before.before.before.before.before.before.before in
-    record { count_bound = omega (arith, (start k).requires.few); fit_together = own_fits (settleable k); no_figures = refl }
+pub total-total_raised-requires-clause-a_bound : goal.total-total_raised-requires-clause-a_bound
+total-total_raised-requires-clause-a_bound c =
+    subst (λ (n : ℕ). n < whole_grams) (sym (sum_cong _ _ _ c.raise_all.ensures.raised.at)) c.requires.raised
 
-pub add_all-requires-2 : goal.add_all-requires-2
-add_all-requires-2 c =
-    let s = start c.before.before.before.before.before.before.before.before.before.before.before.before.before.before.before in
-    record { count_bound = omega (arith, s.requires.few); fit_together = own_fits s.requires.indirect; no_figures = refl }
+pub add_all-requires-clause-fit_together : goal.add_all-requires-clause-fit_together
+add_all-requires-clause-fit_together c = own_fits (settleable c.requires c.raise_all.ensures.direct)
 
-pub settle-settled-requires : goal.settle-settled-requires
-settle-settled-requires c =
-    let k = c.before.before.before.before.before.before.before.before.before.before.before.before.before.before.before.before in
-    let d = c.add_all.ensures in
-    let i = c.add_all-2.ensures in record { count_bound = (start k).requires.few; direct_len = (d.size, i.size); none_outside = (d.outside, i.outside); settleable = settleable_cong (λ n l h. sym (d.at n l h)) (settleable k); settleable_2 = settleable_cong (λ n l h. sym (i.at n l h)) (start k).requires.indirect }
+pub add_all-requires-2-clause-fit_together : goal.add_all-requires-2-clause-fit_together
+add_all-requires-2-clause-fit_together c = own_fits c.requires.indirect
 
--- both pools are settled
-module _ (c : After-settle-settled) where
-  abbrev summed : After-total-total_raised
-  summed = c.before.before.before.before.before.before.before.before.before.before.before.before.before.before
+pub settle-settled-requires-clause-settleable : goal.settle-settled-requires-clause-settleable
+settle-settled-requires-clause-settleable c =
+    settleable_cong (λ n l h. sym (c.add_all.ensures.at n l h)) (settleable c.requires c.raise_all.ensures.direct)
 
-  abbrev raised : After-raise_all
-  raised = summed.before.before.before
+pub settle-settled-requires-clause-settleable_2 : goal.settle-settled-requires-clause-settleable_2
+settle-settled-requires-clause-settleable_2 c = settleable_cong (λ n l h. sym (c.add_all-2.ensures.at n l h)) c.requires.indirect
 
-  abbrev at-start : Start
-  at-start = start raised
+pub total-direct_left-requires-clause-a_bound : goal.total-direct_left-requires-clause-a_bound
+total-direct_left-requires-clause-a_bound c =
+    let fits =
+    left_fits c.requires c.raise_all.ensures.direct c.add_all.ensures c.settle-settled.ensures.pools_settled c.add_all-2.ensures
+    c.settle-settled.ensures.pools_settled_2 in
+    omega (arith, fits)
 
-  abbrev PooledOver : (own : ℕ → ℕ) → (pools lefts : List ℕ) → Type 0
-  PooledOver = Pooled at-start.args.outputs.0 at-start.args.kilos.now at-start.args.count
-
-  direct_pooled : PooledOver (own_direct at-start.args.t1) c.settle-settled.result.direct_pools.0 c.settle-settled.result.direct_lefts.0
-  direct_pooled =
-      let own = c.add_all.ensures in
-      pooled at-start.requires.direct (λ k l h. own.at k l h ∙ own_is raised k l h) c.settle-settled.ensures.pools_settled
-
-  indirect_pooled : PooledOver (own_indirect at-start.args.t1) c.settle-settled.result.indirect_pools.0 c.settle-settled.result.indirect_lefts.0
-  indirect_pooled = pooled at-start.requires.indirect c.add_all-2.ensures.at c.settle-settled.ensures.pools_settled_2
-
-  left_fits : sum_to at-start.args.count (figures c.settle-settled.result.direct_lefts.0)
-      + sum_to at-start.args.count (figures c.settle-settled.result.indirect_lefts.0) < whole_grams
-  left_fits = omega (arith, at-start.requires.own, direct_pooled.kept, indirect_pooled.kept)
-
-pub total-direct_left-requires : goal.total-direct_left-requires
-total-direct_left-requires c = let k = c.before.before.before.before.before.before in record { count_bound = omega (arith, (at-start k).requires.few); a_bound = omega (arith, left_fits k) }
-
-pub total-indirect_left-requires : goal.total-indirect_left-requires
-total-indirect_left-requires c =
-    let k = c.before.before.before.before.before.before.before.before.before in
-    record { count_bound = omega (arith, (at-start k).requires.few); a_bound = omega (arith, left_fits k) }
+pub total-indirect_left-requires-clause-a_bound : goal.total-indirect_left-requires-clause-a_bound
+total-indirect_left-requires-clause-a_bound c =
+    let fits =
+    left_fits c.requires c.raise_all.ensures.direct c.add_all.ensures c.settle-settled.ensures.pools_settled c.add_all-2.ensures
+    c.settle-settled.ensures.pools_settled_2 in
+    omega (arith, fits)
 
 pub overflow_add-left : goal.overflow_add-left
 overflow_add-left c =
-    let k = c.before.before.before.before.before.before.before.before.before.before.before.before in
-    record { fits = omega (arith, left_fits k, c.total-direct_left.ensures, c.total-indirect_left.ensures) }
+    let fits =
+    left_fits c.requires c.raise_all.ensures.direct c.add_all.ensures c.settle-settled.ensures.pools_settled c.add_all-2.ensures
+    c.settle-settled.ensures.pools_settled_2 in
+    record { fits = omega (arith, fits, c.total-direct_left.ensures, c.total-indirect_left.ensures) }
 
 pub returns : goal.returns
 returns c =
-    let k = c.before.before.before.before.before.before.before.before.before.before.before.before in
-    let r = raised k in
-    let d = direct_pooled k in
-    let i = indirect_pooled k in
-    let direct = c.total-direct_left.ensures in
-    let indirect = c.total-indirect_left.ensures in
-    let left = ap₂ (λ (direct indirect : ℕ). direct + indirect) direct indirect in
+    let d = direct_pooled c.requires c.raise_all.ensures.direct c.add_all.ensures c.settle-settled.ensures.pools_settled in
+    let i =
+    indirect_pooled c.requires c.raise_all.ensures.direct c.add_all.ensures c.settle-settled.ensures.pools_settled c.add_all-2.ensures
+    c.settle-settled.ensures.pools_settled_2 in
+    let fits =
+    left_fits c.requires c.raise_all.ensures.direct c.add_all.ensures c.settle-settled.ensures.pools_settled c.add_all-2.ensures
+    c.settle-settled.ensures.pools_settled_2 in
+    let left = ap₂ (λ (direct indirect : ℕ). direct + indirect) c.total-direct_left.ensures c.total-indirect_left.ensures in
+    let size : length c.args.l.indirect.0 ≡ SIZE = search rules in
     record {
-      direct = r.raise_all.ensures.direct;
-      indirect = column_inside _ (start r).args.t1.indirect.0 (indirect_size (start r)) (start r).requires.none_beyond;
-      raised = r.raise_all.ensures.raised;
+      direct = c.raise_all.ensures.direct;
+      indirect = column_inside _ c.args.l.indirect.0 size c.requires.none_beyond;
+      raised = c.raise_all.ensures.raised;
       direct_pools = d.pool;
       indirect_pools = i.pool;
       direct_lefts = d.rest;
       indirect_lefts = i.rest;
       left = left ∙ ap₂ (λ (direct indirect : ℕ). direct + indirect) d.all i.all;
-      left_small = rw left (left_fits k);
-      total_raised = (summed k).total-total_raised.ensures ∙ sum_cong _ _ _ r.raise_all.ensures.raised.at;
+      left_small = rw left fits;
+      total_raised = c.total-total_raised.ensures ∙ sum_cong _ _ _ c.raise_all.ensures.raised.at;
     }

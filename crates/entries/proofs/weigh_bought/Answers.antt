@@ -2,6 +2,7 @@
 use mathlib.Core.Path.{◌≡◌, refl, ◌∙◌}
 use Prim.Native.Nat.{ℕ, ◌≤◌}
 use native.Mathlib.Omega.{arith}
+use borrow.Author.Rules.{rules as search_rules}
 use lib.ListN.{length, get_or}
 use Rattle.lines.specs.Words.{WORDS}
 use Rattle.lines.specs.declared.LineRead.{LineRead}
@@ -15,7 +16,6 @@ use Rattle.entries.specs.Read.{record_read, LineKeeps}
 use Rattle.entries.proofs.Ranges.{in_rules, are_words}
 use Rattle.entries.proofs.OfKind.{w, kind_at, is_at, entry_at}
 use Rattle.entries.proofs.weigh_bought.Goals as goal
-use Rattle.entries.proofs.weigh_bought.Goals.{Start}
 
 -- `B,n,kg,direct,indirect`
 record BoughtLine (l : LineRead) : Type 0 where
@@ -37,22 +37,21 @@ bought_line l sized keeps e =
           (rw (is_at l BoughtPrecursor e) at (entry_at l BoughtPrecursor e));
     }
 
-line : (c : Start) → BoughtLine c.args.t1
-line c = bought_line c.args.t1 (search rules) c.requires.line_keeps c.requires.letter_value
-
 pub precursor_weight-direct-requires : goal.precursor_weight-direct-requires
-precursor_weight-direct-requires c = (line c.before.before).direct
+precursor_weight-direct-requires c =
+    let line = bought_line c.args.l (search search_rules) c.requires.line_keeps c.requires.letter_value in
+    line.direct
 
 pub precursor_weight-indirect-requires : goal.precursor_weight-indirect-requires
-precursor_weight-indirect-requires c = (line c.before.before.before.before.before).indirect
+precursor_weight-indirect-requires c =
+    let line = bought_line c.args.l (search search_rules) c.requires.line_keeps c.requires.letter_value in
+    line.indirect
 
 pub bought_entry-requires : goal.bought_entry-requires
-bought_entry-requires c =
-    let k = c.before.before.before.before in
-    (k.precursor_weight-direct.ensures.bounded, c.precursor_weight-indirect.ensures.bounded)
+bought_entry-requires c = (c.precursor_weight-direct.ensures.bounded, c.precursor_weight-indirect.ensures.bounded)
 
 pub returns : goal.returns
 returns c =
-    let k = c.before.before.before.before.before in
+    let line = bought_line c.args.l (search search_rules) c.requires.line_keeps c.requires.letter_value in
     c.bought_entry.ensures
-    ∙ (line k.before.before.before).entry_is k.precursor_weight-direct.ensures.result_value c.precursor_weight-indirect.ensures.result_value
+    ∙ line.entry_is c.precursor_weight-direct.ensures.result_value c.precursor_weight-indirect.ensures.result_value

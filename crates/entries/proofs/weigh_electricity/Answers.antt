@@ -2,6 +2,7 @@
 use mathlib.Core.Path.{◌≡◌, refl, ◌∙◌}
 use Prim.Native.Nat.{ℕ, ◌≤◌}
 use native.Mathlib.Omega.{arith}
+use borrow.Author.Rules.{rules as search_rules}
 use lib.ListN.{length}
 use Rattle.lines.specs.Words.{WORDS}
 use Rattle.lines.specs.declared.LineRead.{LineRead}
@@ -15,7 +16,6 @@ use Rattle.entries.specs.Read.{record_read, LineKeeps}
 use Rattle.entries.proofs.Ranges.{in_rules, are_words}
 use Rattle.entries.proofs.OfKind.{w, kind_at, is_at, entry_at}
 use Rattle.entries.proofs.weigh_electricity.Goals as goal
-use Rattle.entries.proofs.weigh_electricity.Goals.{Start}
 
 -- `E,from,to,kWh,factor`
 record ElectricityLine (l : LineRead) : Type 0 where
@@ -34,13 +34,12 @@ electricity_line l sized keeps e =
           (rw (is_at l Electricity e) at (entry_at l Electricity e));
     }
 
-line : (c : Start) → ElectricityLine c.args.t1
-line c = electricity_line c.args.t1 (search rules) c.requires.line_keeps c.requires.letter_value
-
 pub electricity_weight-weight-requires : goal.electricity_weight-weight-requires
-electricity_weight-weight-requires c = (line c.before.before).ranges
+electricity_weight-weight-requires c =
+    let line = electricity_line c.args.l (search search_rules) c.requires.line_keeps c.requires.letter_value in
+    line.ranges
 
 pub returns : goal.returns
 returns c =
-    let k = c.before.before.before in
-    c.electricity_entry.ensures ∙ (line k.before.before.before).entry_is k.electricity_weight-weight.ensures.result_value
+    let line = electricity_line c.args.l (search search_rules) c.requires.line_keeps c.requires.letter_value in
+    c.electricity_entry.ensures ∙ line.entry_is c.electricity_weight-weight.ensures.result_value

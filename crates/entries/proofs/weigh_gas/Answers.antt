@@ -2,6 +2,7 @@
 use mathlib.Core.Path.{◌≡◌, refl, ◌∙◌}
 use Prim.Native.Nat.{◌≤◌}
 use native.Mathlib.Omega.{arith}
+use borrow.Author.Rules.{rules as search_rules}
 use lib.ListN.{length}
 use Rattle.lines.specs.Words.{WORDS}
 use Rattle.lines.specs.declared.LineRead.{LineRead}
@@ -15,7 +16,6 @@ use Rattle.entries.specs.Read.{record_read, LineKeeps}
 use Rattle.entries.proofs.Ranges.{in_rules, are_words}
 use Rattle.entries.proofs.OfKind.{w, kind_at, is_at, entry_at}
 use Rattle.entries.proofs.weigh_gas.Goals as goal
-use Rattle.entries.proofs.weigh_gas.Goals.{Start}
 
 -- `W,from,to,MJ`
 record GasLine (l : LineRead) : Type 0 where
@@ -33,11 +33,12 @@ gas_line l sized keeps e =
       entry_is = rw (← v.0 refl, ← v.1.0 refl, ← v.1.1.0 refl) (rw (is_at l WasteGas e) at (entry_at l WasteGas e));
     }
 
-line : (c : Start) → GasLine c.args.t1
-line c = gas_line c.args.t1 (search rules) c.requires.line_keeps c.requires.letter_value
+pub gas_entry-requires : goal.gas_entry-requires
+gas_entry-requires c =
+    let line = gas_line c.args.l (search search_rules) c.requires.line_keeps c.requires.letter_value in
+    line.ranges
 
 pub returns : goal.returns
-returns c = c.gas_entry.ensures ∙ (line c.before.before.before.before).entry_is
-
-pub gas_entry-requires : goal.gas_entry-requires
-gas_entry-requires c = (line c.before.before.before).ranges
+returns c =
+    let line = gas_line c.args.l (search search_rules) c.requires.line_keeps c.requires.letter_value in
+    c.gas_entry.ensures ∙ line.entry_is

@@ -2,7 +2,7 @@
 use mathlib.Core.Path.{◌≡◌, ◌∙◌}
 use Prim.Native.Nat.{ℕ}
 use native.Mathlib.Omega.{arith}
-use borrow.Author.Rules.{rules}
+use borrow.Author.Rules.{rules as search_rules}
 use borrow.Author.Tests.{not-true}
 use lib.IntN.{ℤ}
 use lib.ListN.{length, get_or}
@@ -22,7 +22,6 @@ use Rattle.entries.proofs.Ranges.{number_is, standard_is}
 use Rattle.entries.proofs.Streams.{plain_stream_lem, stream-range, eight}
 use Rattle.entries.proofs.OfKind.{w, kind_at, is_at, entry_at}
 use Rattle.entries.proofs.weigh_stream.Goals as goal
-use Rattle.entries.proofs.weigh_stream.Goals.{Start}
 
 -- `S,n,method,code,kg,a,b,c,d`: a and b as given, or the standard value
 abbrev given_a : LineRead → ℕ
@@ -91,21 +90,15 @@ stream_line l sized keeps e =
           (rw (is_at l SourceStream e) at (entry_at l SourceStream e)));
     }
 
-line : (c : Start) → StreamLine c.args.t1
-line c = stream_line c.args.t1 (search rules) c.requires.line_keeps c.requires.letter_value
-
 pub stream-grams-requires : goal.stream-grams-requires
 stream-grams-requires c =
-    let k = c.before.before.before.before.before in
-    (line k.before.before.before.before).range k.given_a-a.ensures c.given_b-b.ensures
-
-pub returns : goal.returns
-returns c =
-    let s = c.before.before in
-    let b = s.before.before.before.before in
-    let k = b.before.before in
-    c.stream_entry.ensures
-    ∙ (line k.before.before.before.before).entry_is k.given_a-a.ensures b.given_b-b.ensures s.stream-grams.ensures.result_value
+    let line = stream_line c.args.l (search search_rules) c.requires.line_keeps c.requires.letter_value in
+    line.range c.given_a-a.ensures c.given_b-b.ensures
 
 pub stream_entry-requires : goal.stream_entry-requires
 stream_entry-requires c = c.stream-grams.ensures.bounded
+
+pub returns : goal.returns
+returns c =
+    let line = stream_line c.args.l (search search_rules) c.requires.line_keeps c.requires.letter_value in
+    c.stream_entry.ensures ∙ line.entry_is c.given_a-a.ensures c.given_b-b.ensures c.stream-grams.ensures.result_value

@@ -1,11 +1,7 @@
--- `scan_field` meets its contract. Assumes nothing.
-use mathlib.Core.Path.{sym, ◌∙◌}
-use mathlib.Core.Logic.{⊎_elim}
+-- The loop of `scan_field`: what is scanned so far, and how many bytes are left.
 use Prim.Native.Nat.{◌-◌}
-use native.Mathlib.Omega.{arith}
 use lib.ListN.{length}
 use Rattle.fields.specs.Scan.{Scanning}
-use Rattle.fields.proofs.Scanning.{digit_range, none_scanned, scanned_end, scanned_lf, scanned_comma, other_scanned, digit_scanned}
 use Rattle.fields.proofs.scan_field.Given as goal
 
 abbrev pub invariant-loop-end : goal.invariant-loop-end

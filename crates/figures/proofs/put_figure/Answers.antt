@@ -5,55 +5,31 @@ use Rattle.figures.proofs.Widths.{spelt_whole, spelt_minus, spelt_parts, whole_l
 use Rattle.figures.proofs.put_figure.Goals as goal
 
 pub put-requires : goal.put-requires
-put-requires c =
-    let f = c.before.before in
-    omega (arith, whole_long f.f.given.1, f.put_byte-start.auto.0)
+put-requires c = omega (arith, whole_long c.in-Whole.is, c.put_byte-start.auto.space)
 
 pub put_byte-next-requires : goal.put_byte-next-requires
-put_byte-next-requires c =
-    let f = c.before.before in
-    omega (arith, minus_long f.f2.given.1, f.put_byte-start.auto.0)
+put_byte-next-requires c = omega (arith, minus_long c.in-Minus.is, c.put_byte-start.auto.space)
 
 pub put-requires-in-Minus : goal.put-requires-in-Minus
-put-requires-in-Minus c =
-    let sign = c.before.before.before in
-    let f = sign.before.before.before in
-    omega (arith, minus_long f.f2.given.1, f.put_byte-start.auto.0, sign.put_byte-next.auto.0)
+put-requires-in-Minus c = omega (arith, minus_long c.in-Minus.is, c.put_byte-start.auto.space, c.put_byte-next.auto.space)
 
 pub put-next-requires : goal.put-next-requires
-put-next-requires c =
-    let f = c.before.before in
-    omega (arith, parts_long f.f3.given.1, f.put_byte-start.auto.0)
+put-next-requires c = omega (arith, parts_long c.in-Parts.is, c.put_byte-start.auto.space)
 
 pub put_three-requires : goal.put_three-requires
-put_three-requires c =
-    let whole = c.before.before.before in
-    let f = whole.before.before.before in
-    omega (arith, parts_long f.f3.given.1, f.put_byte-start.auto.0, whole.put-next.auto.0)
+put_three-requires c = omega (arith, parts_long c.in-Parts.is, c.put_byte-start.auto.space, c.put-next.auto.space)
 
 pub returns-in-Whole : goal.returns-in-Whole
-returns-in-Whole c =
-    let whole = c.before.before in
-    let f = whole.before.before.before in
-    let comma = f.before.before.before.before in
-    rw (f.f.given.1, spelt_whole) (then (omega arith) comma.put_byte-start.ensures whole.put.ensures)
+returns-in-Whole c = rw (c.in-Whole.is, spelt_whole) (then (omega arith) c.put_byte-start.ensures c.put.ensures)
 
 pub returns-in-Minus : goal.returns-in-Minus
 returns-in-Minus c =
-    let digits = c.before.before in
-    let sign = digits.before.before.before.before in
-    let f = sign.before.before.before in
-    let comma = f.before.before.before.before in
-    let h = minus_long f.f2.given.1 in
-    rw (f.f2.given.1, spelt_minus)
-    (then (omega (arith, h)) (then (omega arith) comma.put_byte-start.ensures sign.put_byte-next.ensures) digits.put-in-Minus.ensures)
+    let h = minus_long c.in-Minus.is in
+    rw (c.in-Minus.is, spelt_minus)
+    (then (omega (arith, h)) (then (omega arith) c.put_byte-start.ensures c.put_byte-next.ensures) c.put-in-Minus.ensures)
 
 pub returns-in-Parts : goal.returns-in-Parts
 returns-in-Parts c =
-    let thousandths = c.before.before in
-    let whole = thousandths.before.before.before.before in
-    let f = whole.before.before.before in
-    let comma = f.before.before.before.before in
-    let h = parts_long f.f3.given.1 in
-    rw (f.f3.given.1, spelt_parts)
-    (then (omega (arith, h)) (then (omega arith) comma.put_byte-start.ensures whole.put-next.ensures) thousandths.put_three.ensures)
+    let h = parts_long c.in-Parts.is in
+    rw (c.in-Parts.is, spelt_parts)
+    (then (omega (arith, h)) (then (omega arith) c.put_byte-start.ensures c.put-next.ensures) c.put_three.ensures)

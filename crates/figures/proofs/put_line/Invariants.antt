@@ -1,13 +1,9 @@
 -- `figures::put_line` meets its contract. Assumes nothing.
-use mathlib.Core.Path.{◌≡◌, ◌∙◌}
-use native.Mathlib.Omega.{arith}
-use Prim.Native.Nat.{◌+◌, ◌-◌, ◌≤◌, ◌<◌}
+use mathlib.Core.Path.{◌≡◌}
+use Prim.Native.Nat.{◌-◌, ◌≤◌}
 use lib.ListN.{length, take}
 use Rattle.decimal.specs.Writing.{Put}
-use Rattle.decimal.proofs.Writing.{then, put_none, put_kept}
-use Rattle.figures.specs.declared.Figure.TheVariants.{Whole}
-use Rattle.figures.specs.Figures.{FIELDS, tailed, line}
-use Rattle.figures.proofs.Widths.{tailed_none, tailed_more, tailed_within, length_more}
+use Rattle.figures.specs.Figures.{FIELDS, tailed}
 use Rattle.figures.proofs.put_line.Given as goal
 
 abbrev pub invariant-loop-i : goal.invariant-loop-i

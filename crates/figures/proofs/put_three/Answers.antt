@@ -7,12 +7,8 @@ use Rattle.figures.proofs.put_three.Goals as goal
 pub returns : goal.returns
 unfolding three
 returns c =
-    let k4 = c.before.before in
-    let k3 = k4.before.before.before.before in
-    let k2 = k3.before.before.before.before in
-    let k1 = k2.before.before.before.before in
     then (search rules)
     (then (search rules)
-    (then (search rules) k1.put_byte-dot.ensures k2.put_byte-hundreds.ensures)
-    k3.put_byte-tens.ensures)
-    k4.put_byte.ensures
+    (then (search rules) c.put_byte-dot.ensures c.put_byte-hundreds.ensures)
+    c.put_byte-tens.ensures)
+    c.put_byte.ensures

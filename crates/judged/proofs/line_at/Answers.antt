@@ -6,30 +6,31 @@ use Rattle.decimal.proofs.Bools.{never}
 use Rattle.lent.specs.Lent.{RECORD}
 use Rattle.judged.proofs.Given.{there, read_lent}
 use Rattle.judged.proofs.line_at.Goals as goal
-use Rattle.judged.proofs.line_at.Goals.{Start, Then-lent}
 
 -- ---- from a record
 
-module _ (c : Then-lent) where
-  abbrev start : Start
-  start = c.before.before.before
-
-  place_there : start.args.lines * RECORD < length start.args.records.now
-  place_there = there start.args.lent start.args.s.now _ _ _ c.if-lent.true start.requires.spelt start.requires.inside
-
 pub overflow_mul-lines : goal.overflow_mul-lines
-overflow_mul-lines c = record { fits = omega (arith, (start c).requires.few.0) }
+overflow_mul-lines c = record { fits = omega (arith, c.requires.few.0) }
 
 pub lent_line-requires : goal.lent_line-requires
-lent_line-requires c = record { place_in_bounds = place_there c; start_bound = let near = (start c).requires.few.1 c.if-lent.true in omega (arith, near, (start c).requires.few.0) }
+lent_line-requires c =
+    let near = c.requires.few.1 c.if-lent.true in
+    record {
+      place_in_bounds = there c.args.lent c.args.s.now _ _ _ c.if-lent.true c.requires.spelt c.requires.inside;
+      start_bound = omega (arith, near, c.requires.few.0);
+    }
 
 pub returns-then-lent : goal.returns-then-lent
 returns-then-lent c =
-    let k = c.before in
-    let lent = k.if-lent.true in
+    let lent = c.if-lent.true in
     let l = c.lent_line.ensures in
-    let near = (start k).requires.few.1 lent in
-    rw lent (record { read_at = read_lent _ _ _ ((start k).requires.spelt lent) (place_there k) _ l.lent_at; bounded = λ e. omega (arith, l.bounded, near) })
+    let near = c.requires.few.1 lent in
+    let place_there : c.args.lines * RECORD < length c.args.records.now =
+    there c.args.lent c.args.s.now _ _ _ lent c.requires.spelt c.requires.inside in
+    rw lent (record {
+      read_at = read_lent _ _ _ (c.requires.spelt lent) place_there _ l.lent_at;
+      bounded = λ e. omega (arith, l.bounded, near);
+    })
 
 -- ---- from the sheet's bytes
 

@@ -1,7 +1,7 @@
 -- `too_large` meets its contract. The loop's invariant: the answer for the processes done. Assumes nothing.
 use mathlib.Core.Path.{◌≡◌, refl}
 use mathlib.Core.Bool.{◌||◌}
-use Prim.Native.Nat.{ℕ, ◌+◌, ◌-◌, ◌≤◌}
+use Prim.Native.Nat.{ℕ, ◌+◌}
 use native.Mathlib.Numerals.{add-one}
 use native.Mathlib.Omega.{arith}
 use lib.Dec.{leb}
@@ -21,8 +21,7 @@ loop-done-init c = (omega arith, refl)
 
 pub loop-done-preserved : goal.loop-done-preserved
 loop-done-preserved c =
-    let k = c.before.before in
-    (omega arith, rw (next k.loop-done.done (figures k.args.a.now), ← k.loop-done.invariant.1))
+    (omega arith, rw (next c.loop-done.done (figures c.args.a.now), ← c.loop-done.invariant.1))
 
 pub returns : goal.returns
 returns c =

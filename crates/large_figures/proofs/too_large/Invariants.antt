@@ -1,11 +1,6 @@
 -- `too_large` meets its contract. The loop's invariant: the answer for the processes done. Assumes nothing.
-use mathlib.Core.Path.{◌≡◌, refl}
-use mathlib.Core.Bool.{◌||◌}
-use Prim.Native.Nat.{ℕ, ◌+◌, ◌-◌, ◌≤◌}
-use native.Mathlib.Numerals.{add-one}
-use native.Mathlib.Omega.{arith}
-use lib.Dec.{leb}
-use Rattle.quantity.specs.Limits.{whole_grams}
+use mathlib.Core.Path.{◌≡◌}
+use Prim.Native.Nat.{◌-◌, ◌≤◌}
 use Rattle.goods.specs.ByProcess.{figures}
 use Rattle.large_figures.specs.Large.{any_large}
 use Rattle.large_figures.proofs.too_large.Given as goal

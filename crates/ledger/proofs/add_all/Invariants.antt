@@ -1,10 +1,7 @@
 -- `ledger::add_all` meets its contract. The loop's invariant: the column stands up to the processes done. Assumes nothing.
-use mathlib.Core.Path.{◌≡◌, refl}
-use Prim.Native.Nat.{◌+◌, ◌-◌, ◌≤◌}
-use native.Mathlib.Omega.{arith}
+use Prim.Native.Nat.{◌-◌, ◌≤◌}
 use Rattle.ledger.specs.Columns.{together}
 use Rattle.goods.specs.ByProcess.{Column}
-use Rattle.ledger.proofs.Columns.{column_none, column_more}
 use Rattle.ledger.proofs.add_all.Given as goal
 
 abbrev pub invariant-loop-done : goal.invariant-loop-done

@@ -1,16 +1,8 @@
 -- `ledger::raise_all` meets its contract. The loop's invariant: both columns stand up to the processes done. Assumes nothing.
-use mathlib.Core.Path.{◌≡◌}
-use Prim.Native.Nat.{ℕ, ◌+◌, ◌-◌, ◌≤◌}
-use native.Mathlib.Omega.{arith}
-use lib.IntN.{pos}
-use lib.ListN.{get_or}
-use mir.Syntax.{w64}
-use mir.Val.{to_z, of_z}
-use Rattle.ledger.proofs.Sizes.{kept}
+use Prim.Native.Nat.{◌-◌, ◌≤◌}
 use Rattle.ledger.specs.Raising.{raised_to_zero, grams_added}
 use Rattle.ledger.specs.Columns.{signed_figures}
 use Rattle.goods.specs.ByProcess.{Column}
-use Rattle.ledger.proofs.Columns.{column_none, column_more}
 use Rattle.ledger.proofs.raise_all.Given as goal
 
 abbrev pub invariant-loop-done : goal.invariant-loop-done

@@ -1,6 +1,6 @@
 -- `ledger::total` meets its contract. The loop's invariant: the sum of the processes done. Assumes nothing.
 use mathlib.Core.Path.{◌≡◌, refl}
-use Prim.Native.Nat.{ℕ, ◌+◌, ◌-◌, ◌≤◌}
+use Prim.Native.Nat.{ℕ, ◌+◌}
 use native.Mathlib.Numerals.{add-one}
 use native.Mathlib.Omega.{arith}
 use lib.ListN.{get_or}
@@ -18,15 +18,13 @@ loop-done-init c = (omega arith, refl)
 
 pub overflow_add-sum : goal.overflow_add-sum
 overflow_add-sum c =
-    let k = c.before.before in
-    let f : ℕ → ℕ = λ p. get_or k.args.a.now p 0 in
-    let most = sum_mono (k.loop-done.done + 1) k.args.count f (omega arith) in
-    record { fits = omega (arith, next k.loop-done.done f, most, k.loop-done.invariant.1, k.requires.a_bound) }
+    let f : ℕ → ℕ = λ p. get_or c.args.a.now p 0 in
+    let most = sum_mono (c.loop-done.done + 1) c.args.count f (omega arith) in
+    record { fits = omega (arith, next c.loop-done.done f, most, c.loop-done.invariant.1, c.requires.a_bound) }
 
 pub loop-done-preserved : goal.loop-done-preserved
 loop-done-preserved c =
-    let k = c.before.before in
-    (omega arith, omega (arith, next k.loop-done.done (λ (p : ℕ). get_or k.args.a.now p 0), k.loop-done.invariant.1))
+    (omega arith, omega (arith, next c.loop-done.done (λ (p : ℕ). get_or c.args.a.now p 0), c.loop-done.invariant.1))
 
 pub returns : goal.returns
 returns c =

@@ -1,11 +1,8 @@
 -- `ledger::total` meets its contract. The loop's invariant: the sum of the processes done. Assumes nothing.
-use mathlib.Core.Path.{◌≡◌, refl}
-use Prim.Native.Nat.{ℕ, ◌+◌, ◌-◌, ◌≤◌}
-use native.Mathlib.Numerals.{add-one}
-use native.Mathlib.Omega.{arith}
+use mathlib.Core.Path.{◌≡◌}
+use Prim.Native.Nat.{◌-◌, ◌≤◌}
 use lib.ListN.{get_or}
 use Rattle.goods.specs.Sums.{sum_to}
-use Rattle.goods.proofs.Sums.{sum_mono, sum_suc}
 use Rattle.ledger.proofs.total.Given as goal
 
 abbrev pub invariant-loop-done : goal.invariant-loop-done

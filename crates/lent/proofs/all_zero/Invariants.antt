@@ -1,10 +1,8 @@
 -- `all_zero` meets its contract. The invariant: the words passed are 0. Assumes nothing.
-use mathlib.Core.Path.{◌≡◌, refl, sym, ◌∙◌}
+use mathlib.Core.Path.{◌≡◌}
 use Prim.Native.Nat.{◌-◌}
-use native.Mathlib.Omega.{arith}
 use lib.ListN.{length, drop}
 use Rattle.lent.specs.Lent.{all_zero}
-use Rattle.lent.proofs.Counts.{none_left, one_zero, one_other}
 use Rattle.lent.proofs.all_zero.Given as goal
 
 abbrev pub invariant-loop-k : goal.invariant-loop-k

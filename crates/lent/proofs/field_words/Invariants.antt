@@ -1,7 +1,6 @@
 -- `field_words` meets its contract. The loop's invariant: the words of the first k fields are stored. Assumes nothing.
 use Prim.Native.Nat.{◌-◌}
-use native.Mathlib.Omega.{arith}
-use Rattle.lent.proofs.Stores.{Stored, none_stored, one_stored, all_stored}
+use Rattle.lent.proofs.Stores.{Stored}
 use Rattle.lent.proofs.field_words.Given as goal
 
 abbrev pub invariant-loop-k : goal.invariant-loop-k

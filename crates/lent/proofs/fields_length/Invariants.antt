@@ -1,10 +1,8 @@
 -- `fields_length` meets its contract. The loop's invariant: the letter and the first fields are measured. Assumes nothing.
-use mathlib.Core.Path.{◌≡◌, ap}
-use Prim.Native.Nat.{ℕ, ◌+◌, ◌*◌, ◌-◌, ◌≤◌}
-use native.Mathlib.Omega.{arith}
+use mathlib.Core.Path.{◌≡◌}
+use Prim.Native.Nat.{◌+◌, ◌*◌, ◌-◌, ◌≤◌}
 use lib.ListN.{length}
-use Rattle.lent.specs.Lent.{record_lent}
-use Rattle.lent.proofs.Lines.{fields_to, fields_none, length_more, record_spelt}
+use Rattle.lent.proofs.Lines.{fields_to}
 use Rattle.lent.proofs.fields_length.Given as goal
 
 abbrev pub invariant-loop-i : goal.invariant-loop-i

@@ -5,8 +5,7 @@ use Rattle.lent.proofs.full_words.Goals as goal
 
 pub returns : goal.returns
 returns c =
-    let start = c.before.before.before.before.before.before.before.before.before.before.before.before.before.before.before.before.before in
-    let law = full_words_lem start.args.lent.now start.requires.lent_len start.requires.bound in
+    let law = full_words_lem c.args.lent.now c.requires.lent_len c.requires.bound in
     rw (
       c.lent_word.ensures,
       c.lent_word-2.ensures,

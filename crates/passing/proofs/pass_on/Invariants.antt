@@ -1,12 +1,8 @@
--- `passing::pass_on` meets its contract. The loop's invariant: processes up to `to` have had their portions of both pools (`Passing`). The measure is
--- how many processes are left. Assumes nothing.
-use Prim.Native.Nat.{◌+◌, ◌-◌, ◌^◌, ◌≤◌, ◌<◌}
-use mathlib.Core.Path.{◌≡◌, refl}
-use native.Mathlib.Omega.{arith}
-use lib.ListN.{get_or}
+-- The loop of `passing::pass_on`: processes up to `to` have had their portions of both pools (`Passing`). The measure is how many processes
+-- are left.
+use Prim.Native.Nat.{◌-◌, ◌≤◌}
 use Rattle.goods.specs.Settling.{pairs}
-use Rattle.passing.proofs.Passing.{Passing, passing_none, passing_skip, passing_next, next_rises}
-use Rattle.passing.proofs.Passing.{pool_fits, given_next_fits, taken_fits, given_fits, passing_all}
+use Rattle.passing.proofs.Passing.{Passing}
 use Rattle.passing.proofs.pass_on.Given as goal
 
 abbrev pub invariant-loop-to : goal.invariant-loop-to

@@ -1,9 +1,6 @@
 -- `line_end` meets its contract. Assumes nothing.
-use mathlib.Core.Path.{◌≡◌, refl}
-use Prim.Native.Nat.{◌+◌, ◌-◌, ◌≤◌}
+use mathlib.Core.Path.{refl}
 use native.Mathlib.Omega.{arith}
-use lib.ListN.{length, drop}
-use Rattle.lines.specs.Words.{line_length}
 use Rattle.places.proofs.NextLine.{line_past, line_lf, line_none}
 use Rattle.places.proofs.line_end.Goals as goal
 
@@ -12,14 +9,12 @@ loop-end-init c = (omega arith, omega arith, refl)
 
 pub returns-then-s-end-eq10 : goal.returns-then-s-end-eq10
 returns-then-s-end-eq10 c =
-    let k = c.before.before in
-    let z = line_lf k.args.s.now k.loop-end.end k.loop-end-test.true c.if-s-end-eq10.true in
+    let z = line_lf c.args.s.now c.loop-end.end c.loop-end-test.true c.if-s-end-eq10.true in
     omega arith
 
 pub loop-end-preserved : goal.loop-end-preserved
 loop-end-preserved c =
-    let k = c.before.before in
-    let z = line_past k.args.s.now k.loop-end.end k.loop-end-test.true c.if-s-end-eq10.false in
+    let z = line_past c.args.s.now c.loop-end.end c.loop-end-test.true c.if-s-end-eq10.false in
     omega arith
 
 pub returns : goal.returns

@@ -1,10 +1,8 @@
 -- `line_end` meets its contract. Assumes nothing.
-use mathlib.Core.Path.{◌≡◌, refl}
+use mathlib.Core.Path.{◌≡◌}
 use Prim.Native.Nat.{◌+◌, ◌-◌, ◌≤◌}
-use native.Mathlib.Omega.{arith}
 use lib.ListN.{length, drop}
 use Rattle.lines.specs.Words.{line_length}
-use Rattle.places.proofs.NextLine.{line_past, line_lf, line_none}
 use Rattle.places.proofs.line_end.Given as goal
 
 abbrev pub invariant-loop-end : goal.invariant-loop-end

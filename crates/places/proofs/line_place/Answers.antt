@@ -10,5 +10,4 @@ returns-then-s-start c = place_past _ _ _ c.if-line-eq0.false c.line_start-start
 
 pub returns : goal.returns
 returns c =
-    let k = c.before.before in
-    place_of _ _ _ k.if-line-eq0.false k.line_start-start.ensures _ c.if-s-start.false c.line_end-end.ensures.value
+    place_of _ _ _ c.if-line-eq0.false c.line_start-start.ensures _ c.if-s-start.false c.line_end-end.ensures.value

@@ -1,10 +1,8 @@
 -- `line_start` meets its contract. Assumes nothing.
-use mathlib.Core.Path.{◌≡◌, ◌∙◌}
+use mathlib.Core.Path.{◌≡◌}
 use Prim.Native.Nat.{◌+◌}
-use native.Mathlib.Omega.{arith}
 use lib.ListN.{drop}
 use Rattle.lines.specs.Lines.{lines_of, line_start}
-use Rattle.places.proofs.NextLine.{start_first, start_past, start_later}
 use Rattle.places.proofs.line_start.Given as goal
 
 abbrev pub invariant-loop-left : goal.invariant-loop-left

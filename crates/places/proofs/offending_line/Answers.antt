@@ -14,6 +14,5 @@ slice_bounds-result-end c = omega (arith, place_inside _ _ _ c.line_place-place.
 
 pub returns : goal.returns
 returns c =
-    let k = c.before.before in
-    let e = k.line_place-place.ensures in
-    record { result_value = place_cut _ _ _ e; lent = ap (λ (p : Place). behind k.args.s.ptr p.start) e }
+    let e = c.line_place-place.ensures in
+    record { result_value = place_cut _ _ _ e; lent = ap (λ (p : Place). behind c.args.s.ref_ptr p.start) e }

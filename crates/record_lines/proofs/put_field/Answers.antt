@@ -34,15 +34,13 @@ comma : (c : After-put_before-first) → 1 ≤ c.put_before-first.result
 comma c = omega (arith, c.put_before-first.ensures.place, ap length (number_spelt _ c.if-word-eq-DASH_WORD.false))
 
 pub overflow_sub-space-2 : goal.overflow_sub-space-2
-overflow_sub-space-2 c = comma c.before.before
+overflow_sub-space-2 c = comma (goal.at.overflow_sub-space-2 c).After-put_before-first
 
 pub overflow_sub-result-2 : goal.overflow_sub-result-2
-overflow_sub-result-2 c = comma c.before.before
+overflow_sub-result-2 c = comma (goal.at.overflow_sub-result-2 c).After-put_before-first
 
 pub returns : goal.returns
 returns c =
-    let put = c.before.before in
-    let test = put.before.before in
-    let first = put.put_before-first.result in
-    let room = comma put in
-    rw (number_spelt _ test.if-word-eq-DASH_WORD.false) (byte_before test.requires.1 put.put_before-first.ensures (first - 1) 44 (omega arith))
+    let first = c.put_before-first.result in
+    let room = comma (goal.at.returns c).After-put_before-first in
+    rw (number_spelt _ c.if-word-eq-DASH_WORD.false) (byte_before c.requires.1 c.put_before-first.ensures (first - 1) 44 (omega arith))

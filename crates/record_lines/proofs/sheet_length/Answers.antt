@@ -1,10 +1,9 @@
 -- `record_lines::sheet_length` meets its contract. The loop's invariant: what is measured, and the lines of the records left, are the sheet.
 -- Assumes nothing.
 use mathlib.Core.Path.{◌≡◌, ap}
-use Prim.Native.Nat.{◌+◌, ◌-◌, ◌≤◌}
+use Prim.Native.Nat.{◌+◌}
 use native.Mathlib.Omega.{arith}
 use lib.ListN.{length, drop}
-use Rattle.quantity.specs.Limits.{limits}
 use Rattle.lent.specs.Lent.{sheet_lent}
 use Rattle.lent.proofs.Steps.{sheet_none}
 use Rattle.record_lines.proofs.Lines.{record_long, length_sheet}
@@ -13,29 +12,19 @@ use Rattle.record_lines.proofs.sheet_length.Goals.{After-line_length-length}
 
 -- a line more is measured
 more : (c : After-line_length-length)
-    → let stop = c.before.before in
-    let k = stop.before.before in
-    let records = k.args.records.now in
-    k.loop-at.length + c.line_length-length.result + length (sheet_lent (drop stop.record_stop-stop.result records)) ≡ length (sheet_lent records)
+    → c.loop-at.length + c.line_length-length.result + length (sheet_lent (drop c.record_stop-stop.result c.args.records.now)) ≡ length (sheet_lent c.args.records.now)
 more c =
-    let stop = c.before.before in
-    let k = stop.before.before in
-    let records = k.args.records.now in
-    let line = length_sheet records k.loop-at.at stop.record_stop-stop.result stop.loop-at-test.true stop.record_stop-stop.ensures in
-    omega (arith, line, c.line_length-length.ensures.value, k.loop-at.invariant.1)
+    let line = length_sheet c.args.records.now c.loop-at.at c.record_stop-stop.result c.loop-at-test.true c.record_stop-stop.ensures in
+    omega (arith, line, c.line_length-length.ensures.value, c.loop-at.invariant.1)
 
 pub line_length-length-requires : goal.line_length-length-requires
-line_length-length-requires c =
-    let stop = c.before in
-    record_long _ _ _ stop.loop-at-test.true stop.record_stop-stop.ensures
+line_length-length-requires c = record_long _ _ _ c.loop-at-test.true c.record_stop-stop.ensures
 
 pub returns-then-length-gt-BYTES : goal.returns-then-length-gt-BYTES
-returns-then-length-gt-BYTES c = omega (arith, more c.before)
+returns-then-length-gt-BYTES c = omega (arith, more (goal.at.returns-then-length-gt-BYTES c).After-line_length-length)
 
 pub loop-at-preserved : goal.loop-at-preserved
-loop-at-preserved c = (omega arith, more c.before, omega arith)
+loop-at-preserved c = (omega arith, more (goal.at.loop-at-preserved c).After-line_length-length, omega arith)
 
 pub returns : goal.returns
-returns c =
-    let k = c.before in
-    omega (arith, ap length (sheet_none k.args.records.now k.loop-at.at c.loop-at-test.false))
+returns c = omega (arith, ap length (sheet_none c.args.records.now c.loop-at.at c.loop-at-test.false))

@@ -1,13 +1,10 @@
 -- `record_lines::sheet_length` meets its contract. The loop's invariant: what is measured, and the lines of the records left, are the sheet.
 -- Assumes nothing.
-use mathlib.Core.Path.{◌≡◌, ap}
+use mathlib.Core.Path.{◌≡◌}
 use Prim.Native.Nat.{◌+◌, ◌-◌, ◌≤◌}
-use native.Mathlib.Omega.{arith}
 use lib.ListN.{length, drop}
 use Rattle.quantity.specs.Limits.{limits}
 use Rattle.lent.specs.Lent.{sheet_lent}
-use Rattle.lent.proofs.Steps.{sheet_none}
-use Rattle.record_lines.proofs.Lines.{record_long, length_sheet}
 use Rattle.record_lines.proofs.sheet_length.Given as goal
 
 abbrev pub invariant-loop-at : goal.invariant-loop-at

@@ -9,30 +9,15 @@ next_field-a-requires c = rw c.no_step.ensures (record { ahead = head_ahead _ _ 
 
 pub returns-then-h : goal.returns-then-h
 returns-then-h c =
-    let h = c.before in
-    let g = h.before in
-    let f = g.before in
-    let e = f.before in
-    let d = e.before in
-    let k = d.before in
-    let b = k.before in
-    let a = b.before in
     let w =
-    eight_read _ _ _ _ _ _ _ _ _ _ _ _ a.line_head-first.ensures a.no_step.ensures a.next_field-a.ensures.value
-    b.next_field-b.ensures.value k.next_field-c.ensures.value d.next_field-d.ensures.value e.next_field-e.ensures.value f.next_field-f.ensures.value
-    g.next_field-g.ensures.value h.next_field-h.ensures.value h.next_field-h.ensures.bounded.1 in
-    so_far_all _ _ _ w.0 (w.1 c.if-h.true)
+    eight_read _ _ _ _ _ _ _ _ _ _ _ _ c.line_head-first.ensures c.no_step.ensures c.next_field-a.ensures.value
+    c.next_field-b.ensures.value c.next_field-c.ensures.value c.next_field-d.ensures.value c.next_field-e.ensures.value
+    c.next_field-f.ensures.value c.next_field-g.ensures.value c.next_field-h.ensures.value c.next_field-h.ensures.bounded.1 in
+    let all = so_far_all _ _ _ w.0 (w.1 c.if-h.true) in
+    record { read_at = all.0; bounded = all.1 }
 
 pub read_on-requires : goal.read_on-requires
 read_on-requires c =
-    let h = c.before in
-    let g = h.before in
-    let f = g.before in
-    let e = f.before in
-    let d = e.before in
-    let k = d.before in
-    let b = k.before in
-    let a = b.before in
-    (eight_read _ _ _ _ _ _ _ _ _ _ _ _ a.line_head-first.ensures a.no_step.ensures a.next_field-a.ensures.value
-    b.next_field-b.ensures.value k.next_field-c.ensures.value d.next_field-d.ensures.value e.next_field-e.ensures.value f.next_field-f.ensures.value
-    g.next_field-g.ensures.value h.next_field-h.ensures.value h.next_field-h.ensures.bounded.1).0
+    (eight_read _ _ _ _ _ _ _ _ _ _ _ _ c.line_head-first.ensures c.no_step.ensures c.next_field-a.ensures.value
+    c.next_field-b.ensures.value c.next_field-c.ensures.value c.next_field-d.ensures.value c.next_field-e.ensures.value
+    c.next_field-f.ensures.value c.next_field-g.ensures.value c.next_field-h.ensures.value c.next_field-h.ensures.bounded.1).0

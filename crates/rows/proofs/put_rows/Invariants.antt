@@ -1,17 +1,7 @@
 -- `rows::put_rows` meets its contract. Assumes nothing.
-use mathlib.Core.Path.{◌≡◌, ap, ◌∙◌}
-use mathlib.Core.List.{List}
-use Prim.Native.Nat.{◌+◌, ◌-◌, ◌≤◌, ◌<◌}
-use native.Mathlib.Omega.{arith}
-use lib.ListN.{length, take}
-use Rattle.goods.specs.ByProcess.{SIZE}
-use Rattle.figures.specs.Figures.{FIELDS, tailed}
-use Rattle.figures.specs.declared.Figure.{Figure}
+use Prim.Native.Nat.{◌-◌, ◌≤◌}
 use Rattle.decimal.specs.Writing.{Put}
-use Rattle.decimal.proofs.Writing.{then, put_none, put_kept}
-use Rattle.reckoning.specs.declared.Reckoning.{Reckoning}
-use Rattle.rows.specs.Held.{fields_of, row_fields, rows_bytes}
-use Rattle.rows.proofs.Rows.{row_same, rows_none, rows_more, row_whole, rows_long, rows_within, report_long}
+use Rattle.rows.specs.Held.{rows_bytes}
 use Rattle.rows.proofs.put_rows.Given as goal
 
 abbrev pub invariant-loop-k : goal.invariant-loop-k

@@ -1,11 +1,9 @@
 -- `settling::has_takers` meets its contract. The loop's invariant: none up to `to` takes anything. The measure is how many processes are left. Assumes
 -- nothing.
-use Prim.Native.Nat.{◌+◌, ◌-◌, ◌≤◌}
-use mathlib.Core.Path.{◌≡◌, sym, ◌∙◌}
+use Prim.Native.Nat.{◌-◌, ◌≤◌}
+use mathlib.Core.Path.{◌≡◌}
 use mathlib.Core.Bool.{false}
-use native.Mathlib.Omega.{arith}
 use Rattle.goods.specs.Settling.{pairs, any_taker}
-use Rattle.settling.proofs.Takers.{no_taker, none_next, taker_found}
 use Rattle.settling.proofs.has_takers.Given as goal
 
 abbrev pub invariant-loop-to : goal.invariant-loop-to

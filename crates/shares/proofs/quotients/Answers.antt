@@ -1,9 +1,8 @@
 -- `quotients` meets its contract. The invariant: of both numbers the bits from i up are walked. The measure is i. Assumes nothing.
-use Prim.Native.Nat.{◌≤◌}
 use native.Mathlib.Omega.{arith}
 use lib.Bits.{or_lt}
 use lib.Count.{leading_le}
-use Rattle.shares.proofs.LongDivision.{Walked, asked, walked_on, not_walked, or_first, or_second, all_walked}
+use Rattle.shares.proofs.LongDivision.{asked, walked_on, not_walked, or_first, or_second, all_walked}
 use Rattle.shares.proofs.quotients.Goals as goal
 
 pub overflow_sub-i : goal.overflow_sub-i

@@ -1,9 +1,6 @@
 -- `quotients` meets its contract. The invariant: of both numbers the bits from i up are walked. The measure is i. Assumes nothing.
 use Prim.Native.Nat.{◌≤◌}
-use native.Mathlib.Omega.{arith}
-use lib.Bits.{or_lt}
-use lib.Count.{leading_le}
-use Rattle.shares.proofs.LongDivision.{Walked, asked, walked_on, not_walked, or_first, or_second, all_walked}
+use Rattle.shares.proofs.LongDivision.{Walked}
 use Rattle.shares.proofs.quotients.Given as goal
 
 abbrev pub invariant-loop-i : goal.invariant-loop-i

@@ -1,37 +1,29 @@
 -- `sheet_reader::read` meets its contract. Assumes nothing.
 use mathlib.Core.Path.{◌≡◌, sym, ◌∙◌}
 use native.Mathlib.Omega.{arith}
-use Rattle.checks.specs.Numbers.{refusal_number}
 use Rattle.sheet_reader.proofs.Outcomes.{refused_given, long, short_given, put_given}
 use Rattle.sheet_reader.proofs.read.Goals as goal
-use Rattle.sheet_reader.proofs.read.Goals.{After-judge_sheet-judged, Else-number-ne0}
 
 pub returns-then-number-ne0 : goal.returns-then-number-ne0
 returns-then-number-ne0 c = refused_given _ _ c.judge_sheet-judged.ensures _ c.refusal_number-number.ensures c.if-number-ne0.true
 
 -- ---- no row refused the sheet
 
-abbrev judged : Else-number-ne0 → After-judge_sheet-judged
-judged c = c.before.before
-
-none : (c : Else-number-ne0) → refusal_number (judged c).judge_sheet-judged.result.refusal ≡ 0
-none c = sym c.refusal_number-number.ensures ∙ c.if-number-ne0.false
-
 pub overflow_mul-count : goal.overflow_mul-count
-overflow_mul-count c = record { fits = omega (arith, (judged c).judge_sheet-judged.ensures.few) }
+overflow_mul-count c = record { fits = omega (arith, c.judge_sheet-judged.ensures.few) }
 
 pub returns-then-list-count : goal.returns-then-list-count
 returns-then-list-count c =
-    let k = c.before.before in
-    rw c.refusal_number.ensures (short_given _ _ (judged k).judge_sheet-judged.ensures (none k) _ c.if-list-count.true)
+    let none = sym c.refusal_number-number.ensures ∙ c.if-number-ne0.false in
+    rw c.refusal_number.ensures (short_given _ _ c.judge_sheet-judged.ensures none _ c.if-list-count.true)
 
 pub put_records-requires : goal.put_records-requires
 put_records-requires c =
-    let k = c.before.before in
-    let of = (judged k).judge_sheet-judged.ensures in
-    record { sheet_value = of.passed (none k); sheet_in_bounds = omega (arith, long _ _ of (none k), c.if-list-count.false) }
+    let none = sym c.refusal_number-number.ensures ∙ c.if-number-ne0.false in
+    let of = c.judge_sheet-judged.ensures in
+    record { sheet_value = of.passed none; sheet_in_bounds = omega (arith, long _ _ of none, c.if-list-count.false) }
 
 pub returns : goal.returns
 returns c =
-    let k = c.before.before.before.before.before in
-    put_given _ _ (judged k).judge_sheet-judged.ensures (none k) _ c.if-list-count.false c.put_records.ensures
+    let none = sym c.refusal_number-number.ensures ∙ c.if-number-ne0.false in
+    put_given _ _ c.judge_sheet-judged.ensures none _ c.if-list-count.false c.put_records.ensures

@@ -1,9 +1,8 @@
--- `put_records` meets its contract. The loop's invariant: the words of the lines above the place are put, and the lines from it on are left
--- (`PutTo`). The measure is how many bytes are left. Assumes nothing.
+-- The loop of `put_records`: the words of the lines above the place are put, and the lines from it on are left (`PutTo`). The measure is how many
+-- bytes are left.
 use Prim.Native.Nat.{◌-◌}
-use native.Mathlib.Omega.{arith}
 use lib.ListN.{length}
-use Rattle.sheet_words.proofs.EveryLine.{PutTo, put_start, put_long, put_all, put_room, put_end, put_next}
+use Rattle.sheet_words.proofs.EveryLine.{PutTo}
 use Rattle.sheet_words.proofs.put_records.Given as goal
 
 abbrev pub invariant-loop-at : goal.invariant-loop-at

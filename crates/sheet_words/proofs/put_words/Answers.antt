@@ -1,8 +1,7 @@
--- `put_words` meets its contract. The loop's invariant: the words of the fields before the k-th are put behind the letter. The measure is how many
--- fields are left. Assumes nothing.
+-- `put_words` meets its contract. Assumes nothing.
 use mathlib.Core.Path.{◌≡◌, refl, ◌∙◌}
 use mathlib.Core.List.{List, [], ◌∷◌, map, map-append}
-use Prim.Native.Nat.{ℕ, ◌+◌, ◌-◌, ◌≤◌, ◌<◌}
+use Prim.Native.Nat.{ℕ, ◌+◌, ◌≤◌, ◌<◌}
 use native.Mathlib.Omega.{arith}
 use native.Mathlib.Nat.{add-zero}
 use native.Mathlib.Numerals.{add-one}
@@ -46,35 +45,24 @@ whole l at r m k room all e p =
     then (omega arith) one (rw (take_all k r.words all, stop) at p)
 
 pub loop-k-init : goal.loop-k-init
-loop-k-init c =
-    let start = c.before.before.before in (
-      omega arith,
-      omega (arith, length-set start.args.list.now start.args.at start.args.l.letter),
-      search rules,
-      rw add-zero (put_none _ _),
-    )
+loop-k-init c = (
+  omega arith,
+  omega (arith, length-set c.args.list.now c.args.at c.args.l.letter),
+  search rules,
+  rw add-zero (put_none _ _),
+)
 
 pub bounds-list-first : goal.bounds-list-first
-bounds-list-first c =
-    let k = c.before.before in
-    let v = k.loop-k.invariant in
-    omega (arith, kept _ _ _ (omega arith) _ k.loop-k.k v.3 (omega arith))
+bounds-list-first c = omega (arith, kept _ _ _ (omega arith) _ c.loop-k.k c.loop-k.invariant.3 (omega arith))
 
 pub loop-k-preserved : goal.loop-k-preserved
 loop-k-preserved c =
-    let k = c.before.before in
-    let v = k.loop-k.invariant in
-    (omega arith, v.1, v.2, more _ _ _ (omega arith) _ k.loop-k.k v.3 _ (omega arith) c.as_lent.ensures)
+    let v = c.loop-k.invariant in
+    (omega arith, v.1, v.2, more _ _ _ (omega arith) _ c.loop-k.k v.3 _ (omega arith) c.as_lent.ensures)
 
 pub shape_of-list : goal.shape_of-list
 shape_of-list c =
-    let k = c.before in
-    let v = k.loop-k.invariant in
-    let start = k.before.before.before.before in
-    kept _ _ _ (omega arith) _ k.loop-k.k v.3 (omega arith) ∙ length-set start.args.list.now start.args.at start.args.l.letter
+    kept _ _ _ (omega arith) _ c.loop-k.k c.loop-k.invariant.3 (omega arith) ∙ length-set c.args.list.now c.args.at c.args.l.letter
 
 pub returns : goal.returns
-returns c =
-    let k = c.before in
-    let v = k.loop-k.invariant in
-    whole _ _ _ _ k.loop-k.k (omega arith) (omega arith) (omega arith) v.3
+returns c = whole _ _ _ _ c.loop-k.k (omega arith) (omega arith) (omega arith) c.loop-k.invariant.3

@@ -1,11 +1,9 @@
 -- `leading_digits` meets its contract. Assumes nothing.
 use mathlib.Core.Path.{◌≡◌, sym, ◌∙◌}
-use mathlib.Core.Bool.{true}
-use Prim.Native.Nat.{ℕ, ◌+◌, ◌-◌, ◌*◌, min, ◌<◌}
+use Prim.Native.Nat.{ℕ, ◌+◌, ◌-◌, ◌*◌, min}
 use native.Mathlib.Omega.{arith}
-use lib.ListN.{length, get_or}
+use lib.ListN.{get_or}
 use Rattle.lines.specs.Words.{CAP}
-use Rattle.fields.specs.Scan.{Scanning}
 use Rattle.fields.proofs.Scanning.{not_last, digit_range, none_scanned, digit_scanned}
 use Rattle.short_fields.proofs.Short.{leading_range, leading_digit}
 use Rattle.short_fields.proofs.leading_digits.Goals as goal

@@ -17,7 +17,9 @@ overflow_mul-result c = search (rules, product_fits)
 
 pub returns-then-code-le9 : goal.returns-then-code-le9
 unfolding carbonates
-returns-then-code-le9 c = carbonates_found c.args.code c.if-code-eq0.false
+returns-then-code-le9 c =
+    let found = carbonates_found c.args.code c.if-code-eq0.false in
+    record { value = found.0; bounded = found.1 }
 
 pub returns : goal.returns
 unfolding carbonates

@@ -17,7 +17,9 @@ overflow_mul-result c = search (rules, product_fits)
 
 pub returns-then-code-le16 : goal.returns-then-code-le16
 unfolding fuels
-returns-then-code-le16 c = net_calorific_values_found c.args.code c.if-code-eq0.false
+returns-then-code-le16 c =
+    let found = net_calorific_values_found c.args.code c.if-code-eq0.false in
+    record { value = found.0; bounded = found.1 }
 
 pub returns : goal.returns
 unfolding fuels

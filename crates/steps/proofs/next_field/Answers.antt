@@ -6,45 +6,41 @@ use Rattle.steps.proofs.next_field.Goals as goal
 
 pub overflow_add-at : goal.overflow_add-at
 overflow_add-at c =
-    let s = c.before.before in
-    let h = ahead_inside s.args.s.now s.args.f.end (s.requires.ahead c.if-f.true) in
+    let h = ahead_inside c.args.s.now c.args.f.end (c.requires.ahead c.if-f.true) in
     omega arith
 
 pub short_field-field-requires : goal.short_field-field-requires
 short_field-field-requires c =
-    let s = c.before.before in
-    let a = s.requires.ahead c.if-f.true in
-    (ahead_inside s.args.s.now s.args.f.end a, a.0)
+    let a = c.requires.ahead c.if-f.true in
+    (ahead_inside c.args.s.now c.args.f.end a, a.0)
 
 pub overflow_add-result : goal.overflow_add-result
 overflow_add-result c =
-    let t = c.before.before.before.before.before in
-    let s = t.before.before in
-    let h = ahead_inside s.args.s.now s.args.f.end (s.requires.ahead t.if-f.true) in
-    omega (arith, s.requires.count_le_end)
+    let h = ahead_inside c.args.s.now c.args.f.end (c.requires.ahead c.if-f.true) in
+    omega (arith, c.requires.count_le_end)
 
 pub returns-in-Next : goal.returns-in-Next
 returns-in-Next c =
-    let f = c.before.before in
-    let k = f.before.before in
-    let s = k.before.before.before in
-    step_done _ _ s.requires.ahead s.requires.count_le_end _ (step_tried _ _ k.if-f.true _ (sym f.field.given.1 ∙ k.short_field-field.ensures))
+    let d = step_done _ _ c.requires.ahead c.requires.count_le_end _ (step_tried _ _ c.if-f.true _ (sym c.in-Next.is ∙ c.short_field-field.ensures)) in
+    record { value = d.0; bounded = d.1 }
 
 pub overflow_add-result-in-Last : goal.overflow_add-result-in-Last
 overflow_add-result-in-Last c =
-    let t = c.before.before.before.before.before in
-    let s = t.before.before in
-    let h = ahead_inside s.args.s.now s.args.f.end (s.requires.ahead t.if-f.true) in
-    omega (arith, s.requires.count_le_end)
+    let h = ahead_inside c.args.s.now c.args.f.end (c.requires.ahead c.if-f.true) in
+    omega (arith, c.requires.count_le_end)
 
 pub returns-in-Last : goal.returns-in-Last
 returns-in-Last c =
-    let f = c.before.before in
-    let k = f.before.before in
-    let s = k.before.before.before in
-    step_done _ _ s.requires.ahead s.requires.count_le_end _ (step_tried _ _ k.if-f.true _ (sym f.field2.given.1 ∙ k.short_field-field.ensures))
+    let d = step_done _ _ c.requires.ahead c.requires.count_le_end _ (step_tried _ _ c.if-f.true _ (sym c.in-Last.is ∙ c.short_field-field.ensures)) in
+    record { value = d.0; bounded = d.1 }
+
+pub returns-in-Another : goal.returns-in-Another
+returns-in-Another c =
+    let d = step_done _ _ c.requires.ahead c.requires.count_le_end _
+    (c.stay.ensures ∙ step_tried _ _ c.if-f.true _ (sym c.in-Another.is ∙ c.short_field-field.ensures)) in
+    record { value = d.0; bounded = d.1 }
 
 pub returns : goal.returns
 returns c =
-    let s = c.before.before.before in
-    step_done _ _ s.requires.ahead s.requires.count_le_end _ (c.stay-2.ensures ∙ step_none _ _ c.if-f.false)
+    let d = step_done _ _ c.requires.ahead c.requires.count_le_end _ (c.stay-2.ensures ∙ step_none _ _ c.if-f.false) in
+    record { value = d.0; bounded = d.1 }

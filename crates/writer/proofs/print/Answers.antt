@@ -10,14 +10,6 @@ use Rattle.decimal.proofs.Writing.{length_written}
 use Rattle.answers.specs.Given.{LONGEST}
 use Rattle.writer.proofs.Job.{can_be_written, report_short, printed_refusal, printed_report}
 use Rattle.writer.proofs.print.Goals as goal
-use Rattle.writer.proofs.print.Goals.{After-put_refusal-arg-1, After-put_report-arg-1}
-
--- the array has LONGEST places
-room : (c : After-put_report-arg-1) → LONGEST ≤ length c.args.space.now
-room c = search rules
-
-room_refused : (c : After-put_refusal-arg-1) → LONGEST ≤ length c.args.space.now
-room_refused c = search rules
 
 -- what is put into a space lies in it
 put_inside : {space bytes after : List ℕ} {n : ℕ} → Put space 0 bytes after n → n ≤ length space → n ≤ length after
@@ -27,27 +19,31 @@ put_inside {space} {bytes} p h =
 
 pub returns-then-number-ne0 : goal.returns-then-number-ne0
 returns-then-number-ne0 c =
-    let k = c.before.before.before in
-    let number = k.refusal_number-number.ensures in
+    let number = c.refusal_number-number.ensures in
     let some = c.if-number-ne0.true in
     let before = c.args.space.now in
     let put = c.put_refusal.ensures in
-    let inside = put_inside put.put (omega (arith, put.bounded, room_refused c.before)) in
-    record { put = rw (printed_refusal _ before _ k.reckon-r.ensures.reckoned (λ z. some (number ∙ z))) (rw number at put.put); bounded = inside }
+    -- the array has LONGEST places
+    let room : LONGEST ≤ length before = search rules in
+    let inside = put_inside put.put (omega (arith, put.bounded, room)) in
+    record { put = rw (printed_refusal _ before _ c.reckon-r.ensures.reckoned (λ z. some (number ∙ z))) (rw number at put.put); bounded = inside }
 
 pub put_report-requires : goal.put_report-requires
 put_report-requires c =
-    let k = c.before.before in
-    let zero = sym k.refusal_number-number.ensures ∙ c.if-number-ne0.false in
-    let answer = k.reckon-r.ensures.reckoned in
+    let zero = sym c.refusal_number-number.ensures ∙ c.if-number-ne0.false in
+    let answer = c.reckon-r.ensures.reckoned in
     let space = c.args.space.now in
-    (can_be_written _ _ (answer.figured zero), omega (arith, report_short _ space _ answer zero, room c))
+    let room : LONGEST ≤ length space = search rules in
+    (can_be_written _ _ (answer.figured zero), omega (arith, report_short _ space _ answer zero, room))
 
 pub returns : goal.returns
 returns c =
-    let k = c.before.before.before in
-    let zero = sym k.refusal_number-number.ensures ∙ c.if-number-ne0.false in
-    let answer = k.reckon-r.ensures.reckoned in
+    let zero = sym c.refusal_number-number.ensures ∙ c.if-number-ne0.false in
+    let answer = c.reckon-r.ensures.reckoned in
     let before = c.args.space.now in
     let put = c.put_report.ensures in
-    record { put = rw (printed_report _ before _ answer zero) put; bounded = put_inside put (omega (arith, report_short _ before _ answer zero, put.place, room c.before)) }
+    let room : LONGEST ≤ length before = search rules in
+    record {
+      put = rw (printed_report _ before _ answer zero) put;
+      bounded = put_inside put (omega (arith, report_short _ before _ answer zero, put.place, room));
+    }

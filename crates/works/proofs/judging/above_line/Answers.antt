@@ -7,9 +7,8 @@ returns-then-letter-ne71 c = rw (ne_eqb _ _ c.if-letter-ne71.true)
 
 pub returns : goal.returns
 returns c =
-    let k = c.before.before.before.before.before in
     rw (
-      eq-eqb _ _ k.if-letter-ne71.false,
+      eq-eqb _ _ c.if-letter-ne71.false,
       ← c.of_process.ensures,
       ← c.of_process-2.ensures,
       ← c.of_pair.ensures,

@@ -16,7 +16,6 @@ returns-then-l-size c = simp (le-ltb limits.lines (suc c.args.lines) (omega arit
 
 pub returns : goal.returns
 returns c =
-    let k = c.before.before.before.before.before.before in
-    let s = k.args in
-    simp (le-ltb limits.lines (suc s.lines) (omega arith), ne_eqb _ _ k.if-l-size.false)
-    (c.line_refusal.ensures ∙ ap (kind_number limits (kind_of s.t6.letter) s.t6.count s.t6.words) c.above_line-above.ensures)
+    let l = c.args.l in
+    simp (le-ltb limits.lines (suc c.args.lines) (omega arith), ne_eqb _ _ c.if-l-size.false)
+    (c.line_refusal.ensures ∙ ap (kind_number limits (kind_of l.letter) l.count l.words) c.above_line-above.ensures)
