@@ -5,6 +5,8 @@ set -u
 
 here=$(dirname -- "$(readlink -f -- "$0")")
 program=$here/target/bin/carbon
+# Where rt writes the program. It is copied from there, and so stays what it was while rt works.
+built=$here/crates/carbon/out/carbon
 # The bytes of a sheet that are copied, far more than a sheet may have: what is longer is refused by 1 all the same.
 most=1000000
 # The bytes of a refused line that are shown. No line that is accepted is so long.
@@ -46,37 +48,47 @@ copy_sheet() {
     head -c "$most" -- "$sheet" > "$room/sheet" || fault "the sheet was not read: $name"
 }
 
+# What rt makes of a crate stands in crates/*/out, and is no source.
 is_current() {
-    [ -x "$program" ] && [ -z "$(find "$here/crates" "$here/crates.txt" -newer "$program")" ]
+    [ -x "$program" ] && [ -z "$(
+        cd "$here" && find crates crates.txt -path 'crates/*/out' ! -path 'crates/*/*/out' -prune -o -newer "$program" -print
+    )" ]
 }
 
-# How many crates rt proves for the program: its own, and those of this repository that crates.txt names for it, for these, and
-# so on.
-count_crates() {
+# The crates that rt proves for the program, each after those that it stands on: those of this repository that crates.txt
+# names for the program, for these, and so on. The last is the program's own.
+list_crates() {
     awk -F : '
-        function count(crate, names, at, sum) {
-            if (!(crate in named) || crate in counted) return 0
-            counted[crate]
-            split(named[crate], names, " ")
-            for (at in names) sum += count(names[at])
-            return sum + 1
+        function list(crate, names, count, at) {
+            if (!(crate in named) || crate in listed) return
+            listed[crate]
+            count = split(named[crate], names, " ")
+            for (at = 1; at <= count; at++) list(names[at])
+            print crate
         }
-        { named[$1] = $2 }
-        END { print count("carbon") }
+        { sub(/#.*/, ""); split($1, words, " "); named[words[1]] = $2 }
+        END { list("carbon") }
     ' "$here/crates.txt"
 }
 
-# Passes on what rt says, a line for each crate that it proves; what the prover says besides stays in target/log.
+# Passes on what rt says, a line for each crate that it proves, with the crate's place among all: rt says nothing of those that
+# have not changed. What the prover says besides stays in target/log.
 show_progress() {
-    total=$(count_crates)
-    count=0
+    list_crates > "$room/crates"
+    total=$(grep -c '' "$room/crates")
+    crate=
     while IFS= read -r words; do
         case $words in
-        'rt: '*' proved (unchanged '*) count=$((count + 1)) ;;
-        'rt: '*' proved ('*)
-            count=$((count + 1))
-            printf '  %s of %s: %s\n' "$count" "$total" "${words#rt: }"
+        'crate '*': modules '*)
+            crate=${words#crate }
+            crate=${crate%%:*}
             ;;
+        'logic=proved '*)
+            place=$(grep -nx -- "$crate" "$room/crates")
+            printf '  %s of %s: %s proved\n' "${place%%:*}" "$total" "$crate"
+            ;;
+        'logic=not-proved'*) printf '  %s not proved\n' "$crate" ;;
+        'rt: chose '* | 'rt: nothing has changed '* | 'rt: running '* | 'rt: '*': begins with '*) ;;
         'rt: '*) printf '  %s\n' "${words#rt: }" ;;
         esac
     done >&2
@@ -91,14 +103,24 @@ build() {
     else
         say "the program is not built yet: it is proved and built, which takes about three minutes on two processors"
     fi
+    # A folder that rt makes would make the crate's own folder newer, so those that it makes are there before that time.
+    for crate in "$here"/crates/*/; do
+        mkdir -p "$crate/out"
+    done
+    mkdir -p "$here/target/bin"
     touch "$room/began"
-    (cd "$here" && rt check carbon; echo $? > "$room/status") < /dev/null 2>&1 | show_progress
-    if [ "$(cat "$room/status")" != 0 ]; then
+    # Once the program is built rt runs it, here on nothing and for nobody. rt's status is then the program's, so it does not
+    # count: that rt runs the program says that it was proved and built.
+    (cd "$here/crates/carbon" && rt run) < /dev/null 2>&1 > /dev/null | tee "$here/target/log" "$room/log" | show_progress
+    if ! grep -q '^rt: running out/carbon' "$room/log"; then
         [ ! -e "$program" ] || touch -t 197001020000 "$program"
-        fault "the program could not be built: rt check carbon failed; target/log has what the prover said"
+        fault "the program could not be built: rt run in crates/carbon failed; target/log has what the prover said"
     fi
-    [ -x "$program" ] || fault "rt check carbon wrote no program; remove the folder target and try again"
-    touch -r "$room/began" "$program"
+    [ -x "$built" ] || fault "rt run wrote no program; remove the folder crates/carbon/out and try again"
+    # A program that runs is replaced, and not written over.
+    if ! { cp "$built" "$program.$$" && touch -r "$room/began" "$program.$$" && mv -f "$program.$$" "$program"; }; then
+        fault "the program could not be copied to $program"
+    fi
 }
 
 # The text of the line: bytes that are no printable ASCII are shown as cat -v and -t do, CR as ^M.

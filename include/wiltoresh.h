@@ -2,10 +2,12 @@
  * Wiltoresh: the carbon balance sheet of an installation. A sheet goes in; a report or a refusal comes out. A sheet can
  * be written from records, which are its lines as numbers, and read into them.
  *
- * The functions are in two archives (x86-64 Linux), each proved and written to target/staticlib by a command of its own:
+ * The functions are in two archives (x86-64 Linux), each proved and written by rt lib in a crate's folder of its own:
  *
- *     libwiltoresh.a          rt staticlib wiltoresh          wiltoresh_report, wiltoresh_line, wiltoresh_longest
- *     libwiltoresh_records.a  rt staticlib wiltoresh_records  wiltoresh_write, wiltoresh_read
+ *     libwiltoresh.a          crates/wiltoresh          wiltoresh_report, wiltoresh_line, wiltoresh_longest
+ *     libwiltoresh_records.a  crates/wiltoresh_records  wiltoresh_write, wiltoresh_read
+ *
+ * callers/archives has both made, and copies them to target/staticlib.
  *
  * So a program that only reports links no code for records. A program may link either or both, in any order: neither
  * needs the other, and no global symbol is defined in both. Neither needs anything but memcpy and memset of the C

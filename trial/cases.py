@@ -1,7 +1,7 @@
-"""Writes the trial's input and the output that is expected of it.
+"""Writes the trial's input to a file, and the output that is expected of it to FILE.stdout.
 
-cases.py FOLDER         the examples and the standard values of document 01, and one case of document 02
-cases.py FOLDER CASES   the cases that the reference implementation made
+cases.py FILE         the examples and the standard values of document 01, and one case of document 02
+cases.py FILE CASES   the cases that the reference implementation made
 """
 import sys
 
@@ -112,7 +112,7 @@ def expected(sheet, number, line, report):
 
 def main():
     cases = list(made(sys.argv[2])) if len(sys.argv) > 2 else EXAMPLES
-    with open(sys.argv[1] + "/stdin", "wb") as given, open(sys.argv[1] + "/stdout", "wb") as wanted:
+    with open(sys.argv[1], "wb") as given, open(sys.argv[1] + ".stdout", "wb") as wanted:
         for case in cases:
             given.write(b"%08d" % len(case[0]) + case[0])
             wanted.write(expected(*case) + b"--\n")

@@ -5,7 +5,7 @@ use std::env;
 use std::path::{Path, PathBuf};
 use std::process;
 
-/// The archives by the names that the linker knows them by, which are those of `rt staticlib` too.
+/// The archives by the names that the linker knows them by, which are those of their crates too.
 const ARCHIVES: [&str; 2] = ["wiltoresh", "wiltoresh_records"];
 
 fn main() {
@@ -19,9 +19,8 @@ fn main() {
         println!("cargo:rerun-if-changed={}", archive.display());
         if !archive.is_file() {
             fail(&format!(
-                "{} is missing: write it with `rt staticlib {}`, or name the folder of both archives in WILTORESH_ARCHIVE_DIR",
-                archive.display(),
-                name
+                "{} is missing: write it with `callers/archives`, or name the folder of both archives in WILTORESH_ARCHIVE_DIR",
+                archive.display()
             ));
         }
         println!("cargo:rustc-link-lib=static={}", name);

@@ -6,9 +6,9 @@
 
 ghost use Rattle.std.specs.Prelude.{◌+◌, ◌≤◌, ◌<◌};
 
-use core::rt::Stdin;
 use input::read_full;
 use std::io;
+use std::io::Stdin;
 
 const HEADER: usize = 40;
 

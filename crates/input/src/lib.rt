@@ -1,7 +1,7 @@
 // Document 01: bytes read from standard input, and whether the program `carbon` read the sheet to its end.
 #![tactic(auto)]
 
-ghost use Rattle.std.specs.Prelude.{◌≡◌, ◌≤◌, length, take, pos, negsuc, ◌≤ℤ◌};
+ghost use Rattle.std.specs.Prelude.{◌≡◌, ℕ, ◌≤◌, [], ◌∷◌, length, take, pos, negsuc, ◌≤ℤ◌};
 ghost use Rattle.std.specs.Io.KnownBytes.{Consumes, IsAtEnd, Keeps};
 ghost use Rattle.input.specs.End.{at_end};
 
@@ -34,6 +34,7 @@ pub fn read_full<R: Read>(reader: &mut R, buffer: &mut [u8]) -> usize
 // One read of one byte more: 1 where there was one, 0 at the input's end, -1 where the read failed.
 pub fn read_more<R: Read>(reader: &mut R) -> isize
     ensures within { (negsuc 0 ≤ℤ result) × (result ≤ℤ pos 1) }
+    ensures one { result ≡ pos 1 → (b : ℕ) × Consumes (R.remaining reader.old) (R.remaining reader.new) (b ∷ []) }
     ensures end { result ≡ pos 0 → IsAtEnd (R.remaining reader.new) }
     ensures kept { result ≡ negsuc 0 → Keeps (R.remaining reader.old) (R.remaining reader.new) }
 {

@@ -3,7 +3,6 @@ use mathlib.Core.Path.{◌≡◌}
 use Prim.Native.Nat.{ℕ, suc, ◌<◌}
 use native.Mathlib.Decide.{ℕ_discrete}
 use native.Mathlib.Omega.{arith}
-use Rattle.decimal.proofs.least.Goals as goal
 
 below : (k m : ℕ) → k < suc m → (k ≡ m → ⊥) → k < m
 below k m h n =

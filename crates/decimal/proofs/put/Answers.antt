@@ -6,6 +6,5 @@ use Rattle.decimal.proofs.put.Goals as goal
 pub returns : goal.returns
 returns c =
     let p = c.put_before in
-    let wide = c.before.before.before.before in
-    let e : p.result ≡ wide.args.at = omega (arith, p.ensures.place, wide.width.ensures.value) in
+    let e : p.result ≡ c.args.at = omega (arith, p.ensures.place, c.width.ensures.value) in
     rw e at p.ensures

@@ -4,8 +4,7 @@ use Prim.Native.Nat.{◌-◌, ◌≤◌, ◌<◌}
 use native.Mathlib.Omega.{arith}
 use lib.ListN.{length, length-set}
 use borrow.Author.Rules.{rules}
-use Rattle.decimal.specs.Spelling.{spelling}
-use Rattle.decimal.proofs.Digits.{Written, two_written, all_written, last_two}
+use Rattle.decimal.proofs.Digits.{two_written, all_written, last_two}
 use Rattle.decimal.proofs.Spelling.{spelling_some}
 use Rattle.decimal.proofs.Widths.{length_at_least}
 use Rattle.decimal.proofs.Writing.{behind_none, behind_room, behind_kept}

@@ -1,13 +1,8 @@
 -- `decimal::put_before` meets its contract. The loop's invariant: the digits behind those that are left are written. Assumes nothing.
-use mathlib.Core.Path.{◌≡◌}
-use Prim.Native.Nat.{◌-◌, ◌≤◌, ◌<◌}
-use native.Mathlib.Omega.{arith}
-use lib.ListN.{length, length-set}
+use Prim.Native.Nat.{◌≤◌}
+use lib.ListN.{length}
 use Rattle.decimal.specs.Spelling.{spelling}
-use Rattle.decimal.proofs.Digits.{Written, two_written, all_written, last_two}
-use Rattle.decimal.proofs.Spelling.{spelling_some}
-use Rattle.decimal.proofs.Widths.{length_at_least}
-use Rattle.decimal.proofs.Writing.{behind_none, behind_room, behind_kept}
+use Rattle.decimal.proofs.Digits.{Written}
 use Rattle.decimal.proofs.put_before.Given as goal
 
 abbrev pub invariant-loop-left : goal.invariant-loop-left

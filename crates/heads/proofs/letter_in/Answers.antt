@@ -4,8 +4,7 @@ use Rattle.heads.proofs.letter_in.Goals as goal
 
 pub returns-then-end-start-eq1 : goal.returns-then-end-start-eq1
 returns-then-end-start-eq1 c =
-    let k = c.before.before in
-    letter_one _ _ _ k.requires.0 k.requires.1 c.if-end-start-eq1.true
+    letter_one _ _ _ c.requires.0 c.requires.1 c.if-end-start-eq1.true
 
 pub returns : goal.returns
 returns c = letter_none _ _ _ c.requires.0 c.requires.1 c.if-end-start-eq1.false

@@ -14,15 +14,11 @@ use Rattle.kinds.proofs.own_good.Goals as goal
 pub returns : goal.returns
 unfolding rules order_number
 returns c =
-    let f3 = c.before.before in
-    let f2 = f3.before.before in
-    let f1 = f2.before.before in
-    let n = f1.before.before in
-    let s = n.args in
+    let s = c.args in
     let from = get_or s.words.now 0 0 in
     let to = get_or s.words.now 1 0 in
     let unknown = ltb s.above.processes from || ltb s.above.processes to in
     let falling = not (leb 1 from && ltb from to) in
-    kind_number_lem limits OwnGood s.count s.words.now s.above refl n.counted-fields.ensures
-    (then f1.field-fields.ensures (then f2.field-fields-2.ensures (then f3.field-fields-3.ensures none)))
-    (names_two (refusal_number f3.field-fields-3.result) _ _ unknown falling _ c.ends-named.ensures c.left.ensures)
+    kind_number_lem limits OwnGood s.count s.words.now s.above refl c.counted-fields.ensures
+    (then c.field-fields.ensures (then c.field-fields-2.ensures (then c.field-fields-3.ensures none)))
+    (names_two (refusal_number c.field-fields-3.result) _ _ unknown falling _ c.ends-named.ensures c.left.ensures)

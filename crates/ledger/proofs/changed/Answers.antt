@@ -26,7 +26,7 @@ fit figure plus minus small grams =
     let sum = figure +ℤ pos plus in
     let sum_small : nat_abs sum ≤ 9223372036854775807 = omega (arith, size_plus figure plus, small, grams.0) in
     let outcome_small : nat_abs (sum -ℤ pos minus) ≤ 9223372036854775807 =
-        omega (arith, size_minus sum minus, size_plus figure plus, small, grams.0, grams.1) in
+    omega (arith, size_minus sum minus, size_plus figure plus, small, grams.0, grams.1) in
     record {
       held = kept figure (omega (arith, small));
       more = to_z_pos w64 (omega (arith, grams.0));

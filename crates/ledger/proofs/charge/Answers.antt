@@ -75,6 +75,6 @@ returns c =
     let s = c.requires.small in
     let charged : c.changed-charged.result.0 ≡ more b e = (simp (held_fits b e room s) at c.changed-charged.ensures) ∙ +ℤ_idr (more b e) in
     let credited : c.changed-credited.result.0 ≡ less b e =
-        (simp (charged, more_fits b e room s, left_fits b e room s) at c.changed-credited.ensures)
-        ∙ ap (λ (z : ℤ). z -ℤ pos e.credit.0) (+ℤ_idr (left b e)) in
+    (simp (charged, more_fits b e room s, left_fits b e room s) at c.changed-credited.ensures)
+    ∙ ap (λ (z : ℤ). z -ℤ pos e.credit.0) (+ℤ_idr (left b e)) in
     simp (credited, charged, more_fits b e room s, less_fits b e room s)

@@ -13,21 +13,18 @@ returns-then-above-ne0 c = judged _ _ _ _ c.refusal_number.ensures c.if-refusal_
 
 pub returns-then-output-taken : goal.returns-then-output-taken
 returns-then-output-taken c =
-    let if2 = c.before in
-    let s = if2.args in
-    judged _ _ _ _ if2.refusal_number.ensures if2.if-refusal_number-ne0.false
-    (simp (eq-eqb _ _ if2.if-above-ne0.false, lt-ltb s.above.output.0 (s.above.taken.0 + s.kg.0) (omega arith)))
+    let s = c.args in
+    judged _ _ _ _ c.refusal_number.ensures c.if-refusal_number-ne0.false
+    (simp (eq-eqb _ _ c.if-above-ne0.false, lt-ltb s.above.output.0 (s.above.taken.0 + s.kg.0) (omega arith)))
 
 pub returns-then-output-taken-2 : goal.returns-then-output-taken-2
 returns-then-output-taken-2 c =
-    let if2 = c.before.before.before in
-    let s = if2.args in
-    judged _ _ _ _ if2.refusal_number.ensures if2.if-refusal_number-ne0.false
-    (simp (eq-eqb _ _ if2.if-above-ne0.false, lt-ltb s.above.output.0 (s.above.taken.0 + s.kg.0) (omega arith)))
+    let s = c.args in
+    judged _ _ _ _ c.refusal_number.ensures c.if-refusal_number-ne0.false
+    (simp (eq-eqb _ _ c.if-above-ne0.false, lt-ltb s.above.output.0 (s.above.taken.0 + s.kg.0) (omega arith)))
 
 pub returns : goal.returns
 returns c =
-    let if2 = c.before.before.before in
-    let s = if2.args in
-    judged _ _ _ _ if2.refusal_number.ensures if2.if-refusal_number-ne0.false
-    (simp (eq-eqb _ _ if2.if-above-ne0.false, le-ltb s.above.output.0 (s.above.taken.0 + s.kg.0) (omega arith)))
+    let s = c.args in
+    judged _ _ _ _ c.refusal_number.ensures c.if-refusal_number-ne0.false
+    (simp (eq-eqb _ _ c.if-above-ne0.false, le-ltb s.above.output.0 (s.above.taken.0 + s.kg.0) (omega arith)))

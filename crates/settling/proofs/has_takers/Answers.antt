@@ -10,16 +10,13 @@ loop-to-init c = (omega arith, c.requires.0, no_taker _ c.args.from c.args.from 
 
 pub returns-then-kilos-from-gt0 : goal.returns-then-kilos-from-gt0
 returns-then-kilos-from-gt0 c =
-    let h = c.before.before.before in
-    sym (taker_found _ h.args.from h.loop-to.to h.args.count h.loop-to.invariant.0 (omega arith) (omega arith))
+    sym (taker_found _ c.args.from c.loop-to.to c.args.count c.loop-to.invariant.0 (omega arith) (omega arith))
 
 pub loop-to-preserved : goal.loop-to-preserved
 loop-to-preserved c =
-    let h = c.before.before.before in
-    (omega arith, omega arith, none_next _ h.args.from h.loop-to.to h.loop-to.invariant.2 (omega arith))
+    (omega arith, omega arith, none_next _ c.args.from c.loop-to.to c.loop-to.invariant.2 (omega arith))
 
 pub returns : goal.returns
 returns c =
-    let h = c.before in
-    let all : h.loop-to.to ≡ h.args.count = omega arith in
-    sym (rw all at h.loop-to.invariant.2)
+    let all : c.loop-to.to ≡ c.args.count = omega arith in
+    sym (rw all at c.loop-to.invariant.2)

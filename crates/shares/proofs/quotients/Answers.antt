@@ -25,8 +25,7 @@ overflow_shr-first c = omega (arith, c.loop-i.invariant.0)
 
 pub with_bit-a-requires : goal.with_bit-a-requires
 with_bit-a-requires c =
-    let l = c.before in
-    record { part_range = l.requires; bit_range = asked l.loop-i.invariant.1 (omega arith) l.ranges.first.fits l.requires }
+    record { part_range = c.requires; bit_range = asked c.loop-i.invariant.1 (omega arith) c.ranges.first.fits c.requires }
 
 pub overflow_cast-i-in-loop-i : goal.overflow_cast-i-in-loop-i
 overflow_cast-i-in-loop-i c = omega (arith, c.loop-i.invariant.0)
@@ -36,15 +35,13 @@ overflow_shr-second c = omega (arith, c.loop-i.invariant.0)
 
 pub with_bit-b-requires : goal.with_bit-b-requires
 with_bit-b-requires c =
-    let l = c.before.before in
-    record { part_range = l.requires; bit_range = asked l.loop-i.invariant.2 (omega arith) l.ranges.second.fits l.requires }
+    record { part_range = c.requires; bit_range = asked c.loop-i.invariant.2 (omega arith) c.ranges.second.fits c.requires }
 
 pub loop-i-preserved : goal.loop-i-preserved
 loop-i-preserved c =
-    let l = c.before.before.before in
     let a = c.with_bit-a.ensures in
     let b = c.with_bit-b.ensures in
-    (omega (arith, l.loop-i.invariant.0), walked_on l.loop-i.invariant.1 (omega arith) a.remainder_value a.remainder_lt_whole, walked_on l.loop-i.invariant.2 (omega arith) b.remainder_value b.remainder_lt_whole)
+    (omega (arith, c.loop-i.invariant.0), walked_on c.loop-i.invariant.1 (omega arith) a.remainder_value a.remainder_lt_whole, walked_on c.loop-i.invariant.2 (omega arith) b.remainder_value b.remainder_lt_whole)
 
 pub returns : goal.returns
 returns c = let l = c.loop-i in (all_walked l.invariant.1 (omega arith), all_walked l.invariant.2 (omega arith))

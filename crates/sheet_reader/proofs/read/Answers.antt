@@ -1,5 +1,5 @@
 -- `sheet_reader::read` meets its contract. Assumes nothing.
-use mathlib.Core.Path.{◌≡◌, sym, ◌∙◌}
+use mathlib.Core.Path.{sym, ◌∙◌}
 use native.Mathlib.Omega.{arith}
 use Rattle.sheet_reader.proofs.Outcomes.{refused_given, long, short_given, put_given}
 use Rattle.sheet_reader.proofs.read.Goals as goal

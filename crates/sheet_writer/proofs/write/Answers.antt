@@ -1,5 +1,5 @@
 -- `sheet_writer::write` meets its contract. Assumes nothing.
-use mathlib.Core.Path.{◌≡◌, sym, ◌∙◌}
+use mathlib.Core.Path.{sym, ◌∙◌}
 use Rattle.sheet_writer.proofs.Outcomes.{refused_given, short_given, put_given}
 use Rattle.sheet_writer.proofs.write.Goals as goal
 

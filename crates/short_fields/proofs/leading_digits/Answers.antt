@@ -16,12 +16,11 @@ wide-value-requires c = tt
 
 pub loop-value-init : goal.loop-value-init
 loop-value-init c =
-    let s = c.before.before.before in
-    let b : ℕ = get_or s.args.s.now s.args.start 0 in
-    let r = leading_range b s.requires.start_value in
+    let b : ℕ = get_or c.args.s.now c.args.start 0 in
+    let r = leading_range b c.requires.start_value in
     let v : c.wide-value.result ≡ min (0 * 10 + (b - 48)) CAP = omega (arith, c.wide-value.ensures) in (
-      rw v (digit_scanned _ _ _ _ _ (none_scanned _ _ (omega (arith, s.requires.start_in_bounds.0))) s.requires.start_in_bounds.0 (leading_digit b s.requires.start_value)),
-      not_last s.args.s.now s.args.start s.requires.start_in_bounds.1 s.requires.start_in_bounds.0 (λ e. omega arith),
+      rw v (digit_scanned _ _ _ _ _ (none_scanned _ _ (omega (arith, c.requires.start_in_bounds.0))) c.requires.start_in_bounds.0 (leading_digit b c.requires.start_value)),
+      not_last c.args.s.now c.args.start c.requires.start_in_bounds.1 c.requires.start_in_bounds.0 (λ e. omega arith),
       omega (arith, c.wide-value.ensures),
     )
 
@@ -51,13 +50,12 @@ pub loop-value-preserved : goal.loop-value-preserved
 loop-value-preserved c =
     let l = c.loop-value in
     let t = c.loop-value-test.true in
-    let s = c.before.before.before.before.before.before.before.before.before in
     let digit = sym c.is_digit.ensures ∙ c.if-is_digit.true in
-    let d = digit_range (get_or s.args.s.now l.end 0) digit in
-    let v : l.value * 10 + c.wide.result ≡ min (l.value * 10 + (get_or s.args.s.now l.end 0 - 48)) CAP =
+    let d = digit_range (get_or c.args.s.now l.end 0) digit in
+    let v : l.value * 10 + c.wide.result ≡ min (l.value * 10 + (get_or c.args.s.now l.end 0 - 48)) CAP =
     omega (arith, t, c.wide.ensures, d.1) in (
       rw v (digit_scanned _ _ _ _ _ l.invariant.0 l.invariant.1 digit),
-      not_last s.args.s.now l.end s.requires.start_in_bounds.1 l.invariant.1 (λ e. omega arith),
+      not_last c.args.s.now l.end c.requires.start_in_bounds.1 l.invariant.1 (λ e. omega arith),
       omega (arith, t, c.wide.ensures, d.1),
     )
 

@@ -16,13 +16,9 @@ use Rattle.source_streams.proofs.source_stream.Goals as goal
 pub returns : goal.returns
 unfolding rules order_number
 returns c =
-    let known = c.before.before.before.before in
-    let behind = known.before in
-    let f1 = behind.before in
-    let n = f1.before.before in
-    let s = n.args in
-    let eight : refusal_number n.counted-fields.result ≡ cond (eqb s.count (length (word_rules limits SourceStream s.words.now))) 0 5 =
-    rw (six (number (get_or s.words.now 1 0))) n.counted-fields.ensures in
+    let s = c.args in
+    let eight : refusal_number c.counted-fields.result ≡ cond (eqb s.count (length (word_rules limits SourceStream s.words.now))) 0 5 =
+    rw (six (number (get_or s.words.now 1 0))) c.counted-fields.ensures in
     kind_number_lem limits SourceStream s.count s.words.now s.above refl eight
-    (then f1.field-fields.ensures (rest behind.by_method-fields.ensures))
-    (names_one (refusal_number behind.by_method-fields.result) _ _ (get_or s.words.now 0 0) s.above _ known.known-named.ensures c.standard.ensures)
+    (then c.field-fields.ensures (rest c.by_method-fields.ensures))
+    (names_one (refusal_number c.by_method-fields.result) _ _ (get_or s.words.now 0 0) s.above _ c.known-named.ensures c.standard.ensures)

@@ -1,7 +1,7 @@
 -- `space::put_bytes` meets its contract. Assumes nothing.
 use mathlib.Core.Path.{◌≡◌, refl}
 use mathlib.Core.List.{List, [], ◌∷◌}
-use Prim.Native.Nat.{ℕ, ◌+◌, ◌-◌, ◌≤◌, ◌<◌}
+use Prim.Native.Nat.{ℕ, ◌+◌, ◌≤◌, ◌<◌}
 use native.Mathlib.Numerals.{add-one}
 use native.Mathlib.Omega.{arith}
 use lib.ListN.{length, take, set, get_or}
@@ -28,24 +28,20 @@ loop-i-init c = (omega arith, c.requires.0, c.requires.1, put_none _ _)
 
 pub bounds-space-i : goal.bounds-space-i
 bounds-space-i c =
-    let k = c.before.before in
-    let v = k.loop-i.invariant in
-    omega (arith, kept _ _ _ k.loop-i.i (omega arith) (omega arith) v.3)
+    let v = c.loop-i.invariant in
+    omega (arith, kept _ _ _ c.loop-i.i (omega arith) (omega arith) v.3)
 
 pub loop-i-preserved : goal.loop-i-preserved
 loop-i-preserved c =
-    let k = c.before.before in
-    let v = k.loop-i.invariant in
-    (omega arith, v.1, v.2, more _ _ _ k.loop-i.i (omega arith) (omega arith) v.3)
+    let v = c.loop-i.invariant in
+    (omega arith, v.1, v.2, more _ _ _ c.loop-i.i (omega arith) (omega arith) v.3)
 
 pub shape_of-space : goal.shape_of-space
 shape_of-space c =
-    let k = c.before in
-    let v = k.loop-i.invariant in
-    kept _ _ _ k.loop-i.i (omega arith) (omega arith) v.3
+    let v = c.loop-i.invariant in
+    kept _ _ _ c.loop-i.i (omega arith) (omega arith) v.3
 
 pub returns : goal.returns
 returns c =
-    let k = c.before in
-    let e : k.loop-i.i ≡ k.args.n = omega arith in
-    rw e at k.loop-i.invariant.3
+    let e : c.loop-i.i ≡ c.args.n = omega arith in
+    rw e at c.loop-i.invariant.3

@@ -1,13 +1,7 @@
 -- `space::put_bytes` meets its contract. Assumes nothing.
-use mathlib.Core.Path.{◌≡◌, refl}
-use mathlib.Core.List.{List, [], ◌∷◌}
-use Prim.Native.Nat.{ℕ, ◌+◌, ◌-◌, ◌≤◌, ◌<◌}
-use native.Mathlib.Numerals.{add-one}
-use native.Mathlib.Omega.{arith}
-use lib.ListN.{length, take, set, get_or}
-use lib.Seq.{take-suc, length-take-le}
+use Prim.Native.Nat.{◌-◌, ◌≤◌}
+use lib.ListN.{length, take}
 use Rattle.decimal.specs.Writing.{Put}
-use Rattle.decimal.proofs.Writing.{written_one, then, put_none, put_kept}
 use Rattle.space.proofs.put_bytes.Given as goal
 
 abbrev pub invariant-loop-i : goal.invariant-loop-i

@@ -10,11 +10,7 @@ use Rattle.transfers.proofs.waste_gas.Goals as goal
 pub returns : goal.returns
 unfolding rules order_number
 returns c =
-    let f3 = c.before in
-    let f2 = f3.before.before in
-    let f1 = f2.before.before in
-    let n = f1.before.before in
-    let s = n.args in
-    kind_number_lem limits WasteGas s.count s.words.now s.above refl n.counted-fields.ensures
-    (then f1.field-fields.ensures (then f2.field-fields-2.ensures (then f3.field-fields-3.ensures none)))
+    let s = c.args in
+    kind_number_lem limits WasteGas s.count s.words.now s.above refl c.counted-fields.ensures
+    (then c.field-fields.ensures (then c.field-fields-2.ensures (then c.field-fields-3.ensures none)))
     c.different_ends.ensures
