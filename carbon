@@ -88,7 +88,7 @@ show_progress() {
             printf '  %s of %s: %s proved\n' "${place%%:*}" "$total" "$crate"
             ;;
         'logic=not-proved'*) printf '  %s not proved\n' "$crate" ;;
-        'rt: chose '* | 'rt: nothing has changed '* | 'rt: running '* | 'rt: '*': begins with '*) ;;
+        'rt: chose '* | 'rt: nothing has changed '* | 'rt: running '* | 'rt: rt '* | 'rt: '*': begins with '*) ;;
         'rt: '*) printf '  %s\n' "${words#rt: }" ;;
         esac
     done >&2
