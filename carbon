@@ -26,7 +26,7 @@ Exit status: 0  a report
              2  a fault: wrong arguments, the sheet cannot be read, the program cannot be built, or the answer cannot be
                 written
 
-The first run has rt prove and build the program, which takes about three minutes on two processors. A run after a change
+The first run has rt prove and build the program, which takes about ten minutes on two processors. A run after a change
 of crates.txt or of a file in crates does so again for what changed.
 END
 }
@@ -99,9 +99,9 @@ show_progress() {
 build() {
     command -v rt > /dev/null || fault "rt, which builds the program, is missing; README.md names the toolchain"
     if [ -x "$program" ]; then
-        say "a source is newer than the program: what changed is proved and built again, in up to about three minutes"
+        say "a source is newer than the program: what changed is proved and built again, in up to about ten minutes"
     else
-        say "the program is not built yet: it is proved and built, which takes about three minutes on two processors"
+        say "the program is not built yet: it is proved and built, which takes about ten minutes on two processors"
     fi
     # A folder that rt makes would make the crate's own folder newer, so those that it makes are there before that time.
     for crate in "$here"/crates/*/; do
