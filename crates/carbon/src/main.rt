@@ -4,26 +4,31 @@
 use answers::LONGEST;
 use input::{at_end, read_full, read_more};
 use quantity::limits::BYTES;
-use std::io;
 use std::io::Write;
 
 // One byte more than a sheet may have, so that a longer one is seen.
 const MOST: usize = BYTES + 1;
 
 // No contract can say what a program reads and writes: callers/run runs it at its limits and with input that cannot be read.
-fn main(rt: HostRuntime) -> io::Result<()> {
+fn main(rt: HostRuntime) {
     let mut stdin = rt.stdin();
     let mut sheet = [0u8; MOST];
     let got = read_full(&mut stdin, &mut sheet);
     if !at_end(got, read_more(&mut stdin)) {
-        return rt
-            .stderr()
-            .write_all(b"carbon: the sheet was not read to its end\n");
+        tell(rt, b"carbon: the sheet was not read to its end\n");
+        return;
     }
     let mut space = [0u8; LONGEST];
     let length = writer::print(&sheet[..got], &mut space);
     match rt.stdout().write_all(&space[..length]) {
-        Ok(()) => Ok(()),
-        Err(_) => rt.stderr().write_all(b"carbon: not all could be written\n"),
+        Ok(()) => {}
+        Err(_) => tell(rt, b"carbon: not all could be written\n"),
+    }
+}
+
+// A fault in words on standard error, which may fail too.
+fn tell(rt: HostRuntime, words: &[u8]) {
+    match rt.stderr().write_all(words) {
+        Ok(()) | Err(_) => {}
     }
 }

@@ -7,7 +7,6 @@
 ghost use Rattle.std.specs.Prelude.{◌+◌, ◌≤◌, ◌<◌};
 
 use input::read_full;
-use std::io;
 use std::io::Stdin;
 
 const HEADER: usize = 40;
@@ -137,7 +136,7 @@ fn holds(stdin: &mut Stdin, h: &[u8; HEADER]) -> bool {
         & round_trip(&sheet[..size], number_at(h, 16), number_at(h, 24))
 }
 
-fn main(rt: HostRuntime) -> io::Result<()> {
+fn main(rt: HostRuntime) {
     let mut stdin = rt.stdin();
     let mut header = [0u8; HEADER];
     let mut tried: usize = 0;
@@ -152,5 +151,7 @@ fn main(rt: HostRuntime) -> io::Result<()> {
         }
         different += 1;
     }
-    println!(rt; "{tried} cases, different: {different}")
+    match println!(rt; "{tried} cases, different: {different}") {
+        Ok(()) | Err(_) => {}
+    }
 }
