@@ -21,7 +21,8 @@ unfolding first_of
 written_within report space h w = rw (le-ltb (length space) (length report) h, start_place w, start_bytes w)
 
 -- bytes put at the start of a space are its first, and so are copied from there
-pub copied : {l report bytes space after : List ℕ} {n : ℕ} → Put l 0 report bytes n → Put space 0 (take n bytes) after n → Put space 0 report after n
+pub copied : {l report bytes space after : List ℕ} {n k : ℕ} → Put l 0 report bytes n → Put space 0 (take n bytes) after k → Put space 0 report after n
 copied {l} {report} {bytes} {n = n} w p =
     let first : take n bytes ≡ report = ap (take n) (start_bytes w) ∙ take_at report (drop (length report) l) n (sym (start_place w)) in
-    rw first at p
+    let put = rw first at p in
+    rw (start_place put ∙ sym (start_place w)) at put

@@ -6,10 +6,10 @@ ghost use Rattle.decimal.specs.Writing.{Put};
 ghost use Rattle.report.specs.Outcome.{printed};
 ghost use Rattle.sheet.specs.Verdict.{refused};
 ghost use Rattle.rows.specs.Held.{CanBeWritten, bytes_held};
-ghost use Rattle.answers.specs.Given.{LONGEST, gives};
+ghost use Rattle.answers.specs.Given.{LONGEST, answer_of, gives};
 ghost use Rattle.answers.specs.Within.{outcome_within};
 
-use checks::refusals::{Refusal, refusal_number};
+use checks::refusals::{Refusal, Refused};
 use quantity::limits::PROCESSES;
 use reckoning::Reckoning;
 use rows::put_report;
@@ -18,12 +18,31 @@ use space::{put_byte, put_bytes};
 // No report has more bytes, and no refusal printed.
 pub const LONGEST: usize = 210 * PROCESSES + 83;
 
-// What the job gives: number and line of a refusal, or 0 and 0, and the report's length, 0 for a refusal.
+// What the job gives, as other languages see it: number and line of a refusal, or 0 and 0, and the report's length, 0 for a refusal.
 #[derive(Clone, Copy)]
 pub struct Answer {
     pub number: u64,
     pub line: usize,
     pub length: usize,
+}
+
+impl From<Result<usize, Refused>> for Answer {
+    ghost from_gives = { λ given answer. answer ≡ answer_of given };
+
+    fn from(given: Result<usize, Refused>) -> Answer {
+        match given {
+            Ok(length) => Answer {
+                number: 0,
+                line: 0,
+                length,
+            },
+            Err(refused) => Answer {
+                number: u64::from(refused.refusal),
+                line: refused.line,
+                length: 0,
+            },
+        }
+    }
 }
 
 // Writes a refusal's number, a comma, its line number and LF.
@@ -39,23 +58,15 @@ pub fn put_refusal(space: &mut [u8], number: u64, line: usize) -> usize
 }
 
 // The report of an accepted sheet, in a space that may be too short: it is written apart, and so measured, before the space is touched.
-pub fn put_within(space: &mut [u8], r: Reckoning) -> Answer
+pub fn put_within(space: &mut [u8], r: Reckoning) -> Result<usize, Refused>
     requires { (CanBeWritten r) × (length (bytes_held r) ≤ LONGEST) }
-    ensures { gives result space.new ≡ outcome_within (bytes_held r) space.old }
+    ensures { gives (answer_of result) space.new ≡ outcome_within (bytes_held r) space.old }
 {
     let mut bytes = [0u8; LONGEST];
     let length = put_report(&mut bytes, r);
     if space.len() < length {
-        return Answer {
-            number: refusal_number(Refusal::SpaceTooShort),
-            line: 0,
-            length: 0,
-        };
+        return Err(Refused::from(Refusal::SpaceTooShort));
     }
-    put_bytes(space, &bytes, length);
-    Answer {
-        number: 0,
-        line: 0,
-        length: length,
-    }
+    put_bytes(space, &bytes[..length]);
+    Ok(length)
 }

@@ -9,7 +9,8 @@ use lib.IntN.{ℤ, pos}
 use borrow.Author.Tests.{eqb-true, eqb-false}
 use Rattle.lines.specs.Records.{Record, number_at}
 use Rattle.sheet.specs.Refusals.{sum_of, process, from, to}
-use Rattle.sheet.specs.Kinds.{OwnGood, is}
+use Rattle.sheet.specs.Kinds.{is}
+use Rattle.sheet.specs.declared.Kind.TheVariants.{OwnGood}
 use Rattle.sheet.proofs.Table.{kind_is}
 use Rattle.sheet.specs.Verdict.{All}
 use Rattle.goods.specs.Sums.{only_at}

@@ -13,7 +13,9 @@ use Rattle.quantity.specs.Limits.{Limits, limits}
 use Rattle.quantity.proofs.Small.{weight_small, charge_small, stream_small}
 use Rattle.quantity.proofs.Weights.{credit_below_charge}
 use Rattle.lines.specs.Records.{Record, number_at}
-use Rattle.sheet.specs.Kinds.{Kind, Process, SourceStream, MeasurableHeat, WasteGas, Electricity, BoughtPrecursor, OwnGood, Unknown, kind, is, rules}
+use Rattle.sheet.specs.Kinds.{kind, is, rules}
+use Rattle.sheet.specs.declared.Kind.{Kind}
+use Rattle.sheet.specs.declared.Kind.TheVariants.{Process, SourceStream, MeasurableHeat, WasteGas, Electricity, BoughtPrecursor, OwnGood, Unknown}
 use Rattle.sheet.specs.Refusals.{process, from, to, has_process, missing_process, ends_not_allowed}
 use Rattle.sheet.specs.Ranges.{KeepsRanges}
 use Rattle.sheet.specs.Verdict.{All}

@@ -13,7 +13,8 @@ use borrow.Author.Tests.{eqb-true, eqb-false, ltb-true, ltb-false}
 use Rattle.decimal.proofs.Bools.{never}
 use Rattle.lines.specs.Records.{Record}
 use Rattle.sheet.specs.Refusals.{sum_of, from, to}
-use Rattle.sheet.specs.Kinds.{WasteGas, is}
+use Rattle.sheet.specs.Kinds.{is}
+use Rattle.sheet.specs.declared.Kind.TheVariants.{WasteGas}
 use Rattle.sheet.proofs.Table.{kind_is}
 use Rattle.sheet.specs.Verdict.{All}
 use Rattle.ledger.specs.Raising.{grams_added}

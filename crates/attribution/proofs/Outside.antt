@@ -7,7 +7,8 @@ use Prim.Native.Nat.{ℕ, ◌≤◌, ◌<◌}
 use native.Mathlib.Omega.{arith}
 use borrow.Author.Tests.{ne_eqb}
 use Rattle.lines.specs.Records.{Record}
-use Rattle.sheet.specs.Kinds.{Process, is}
+use Rattle.sheet.specs.Kinds.{is}
+use Rattle.sheet.specs.declared.Kind.TheVariants.{Process}
 use Rattle.sheet.specs.Refusals.{sum_of, process, output_in}
 use Rattle.sheet.specs.Verdict.{All}
 use Rattle.sheet.proofs.Table.{kind_is}

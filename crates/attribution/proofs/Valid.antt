@@ -12,7 +12,8 @@ use Rattle.decimal.proofs.Bools.{never, or_neither, or_either}
 use Rattle.quantity.specs.Limits.{Limits}
 use Rattle.lines.specs.Lines.{Line, lines_of}
 use Rattle.lines.specs.Records.{Record, record_of, records_of, number_at}
-use Rattle.sheet.specs.Kinds.{Process, OwnGood, kind, is}
+use Rattle.sheet.specs.Kinds.{kind, is}
+use Rattle.sheet.specs.declared.Kind.TheVariants.{Process, OwnGood}
 use Rattle.sheet.specs.Refusals.{any_of, sum_of, process, from, to, output_in, taken_in, has_process, process_not_next, output_exceeded}
 use Rattle.sheet.specs.Verdict.{sheet_checks, All, Passes}
 use Rattle.sheet.proofs.Passed.{PassedLine, PassedLines, sheet_passed}

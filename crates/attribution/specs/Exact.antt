@@ -1,7 +1,8 @@
 -- For the reader. Document 01, "The report": when left equals entered.
 use Rattle.std.specs.Prelude.{◌≡◌, true, List, ℕ, ◌≤◌, pos, ◌≤ℤ◌}
 use Rattle.lines.specs.Records.{Record}
-use Rattle.sheet.specs.Kinds.{WasteGas, is}
+use Rattle.sheet.specs.Kinds.{is}
+use Rattle.sheet.specs.declared.Kind.TheVariants.{WasteGas}
 use Rattle.sheet.specs.Refusals.{from, to}
 use Rattle.sheet.specs.Verdict.{All}
 use Rattle.attribution.specs.Attribution.{balance}

@@ -2,7 +2,8 @@
 use Rattle.std.specs.Prelude.{cond, ◌||◌, List, [], ◌∷◌, ◌++◌, ℕ, zero, suc, ◌+◌, ◌-◌, eqb, ℤ, pos, ◌+ℤ◌, ◌-ℤ◌}
 use Rattle.lines.specs.Records.{Record, number_at, records_of}
 use Rattle.sheet.specs.Refusals.{sum_of, from, to, output_in}
-use Rattle.sheet.specs.Kinds.{Process, OwnGood, is}
+use Rattle.sheet.specs.Kinds.{is}
+use Rattle.sheet.specs.declared.Kind.TheVariants.{Process, OwnGood}
 use Rattle.goods.specs.Sums.{sum_to, only_at}
 use Rattle.attribution.specs.Sums.{sum_of_ℤ}
 use Rattle.entries.specs.Weighed.{stream_of, charge_of, credit_of, bought_direct_of, bought_indirect_of}

@@ -4,8 +4,9 @@
 // report length), the sheet, and the report.
 #![tactic(auto)]
 
-ghost use Rattle.std.specs.Prelude.{◌+◌, ◌≤◌, ◌<◌};
+ghost use Rattle.std.specs.Prelude.{◌+◌, ◌≤◌};
 
+use answers::Answer;
 use input::read_full;
 use std::io::Stdin;
 
@@ -29,111 +30,85 @@ const FILL: u8 = 165;
 // More cases than there are.
 const MOST: usize = 100000;
 
-fn digit(h: &[u8; HEADER], at: usize) -> usize
-    requires { at < 40 }
-    ensures { result ≤ 15 }
-{
-    (h[at] % 16) as usize
-}
-
-fn two_digits(h: &[u8; HEADER], at: usize) -> usize
-    requires { at + 2 ≤ 40 }
-    ensures { result ≤ 165 }
-{
-    digit(h, at) * 10 + digit(h, at + 1)
+// What a case's header says: the lengths of its sheet and of its space, and the number, line and report length that it should give.
+#[derive(Clone, Copy)]
+struct Case {
+    sheet: usize,
+    space: usize,
+    number: u64,
+    line: usize,
+    report: usize,
+    ghost fits: { (sheet ≤ 131072) × (space ≤ 8192) × (report ≤ 8192) },
 }
 
 // The number of eight digits at a place.
-fn number_at(h: &[u8; HEADER], at: usize) -> usize
+fn number_at(h: &[u8; HEADER], at: usize) -> Option<usize>
     requires { at + 8 ≤ 40 }
 {
-    let high = two_digits(h, at) * 100 + two_digits(h, at + 2);
-    let low = two_digits(h, at + 4) * 100 + two_digits(h, at + 6);
-    high * 10000 + low
+    str::from_utf8(&h[at..at + 8]).ok()?.parse().ok()
+}
+
+// The case of a header, if its numbers can be read and it is of the greatest lengths at most.
+fn case_of(h: &[u8; HEADER]) -> Option<Case> {
+    let sheet = number_at(h, 0)?;
+    let space = number_at(h, 8)?;
+    let number = number_at(h, 16)? as u64;
+    let line = number_at(h, 24)?;
+    let report = number_at(h, 32)?;
+    if (SHEET < sheet) | (SPACE < space) | (SPACE < report) {
+        return None;
+    }
+    Some(Case {
+        sheet,
+        space,
+        number,
+        line,
+        report,
+    })
 }
 
 // Whether the space has the report first, and past it what it had before.
-fn as_wanted(space: &[u8; SPACE], wanted: &[u8; SPACE], length: usize) -> bool {
-    let mut i: usize = 0;
-    while i < SPACE {
-        if i < length {
-            if space[i] != wanted[i] {
-                return false;
-            }
-        } else {
-            if space[i] != FILL {
-                return false;
-            }
-        }
-        i += 1;
+fn as_wanted(space: &[u8; SPACE], report: &[u8]) -> bool {
+    match space.split_at_checked(report.len()) {
+        Some((first, rest)) => (first == report) & rest.iter().all(|&byte| byte == FILL),
+        None => false,
     }
-    true
-}
-
-// Whether the sheet stands first in the space.
-fn same_bytes(sheet: &[u8], space: &[u8; WRITTEN]) -> bool {
-    if WRITTEN < sheet.len() {
-        return false;
-    }
-    let mut i: usize = 0;
-    while i < sheet.len() {
-        if sheet[i] != space[i] {
-            return false;
-        }
-        i += 1;
-    }
-    true
 }
 
 // Whether the sheet is refused as a sheet to be read, by this number and line, or its records, written, are the same bytes.
-fn round_trip(sheet: &[u8], number: usize, line: usize) -> bool {
+fn round_trip(sheet: &[u8], case: Case) -> bool {
     let mut list = [0u64; LIST];
     let mut space = [FILL; WRITTEN];
-    let r = sheet_reader::read(sheet, &mut list);
-    if r.number != 0 {
-        return (r.number == (number as u64)) & (r.line == line);
+    match sheet_reader::read(sheet, &mut list) {
+        Err(refused) => (u64::from(refused.refusal) == case.number) & (refused.line == case.line),
+        // 16: the report space of the case is too short
+        Ok(_) if (case.number != 0) & (case.number != 16) => false,
+        Ok(count) if RECORDS < count => false,
+        Ok(count) => match sheet_writer::write(&list[..9 * count], &mut space) {
+            Ok(length) => (length == sheet.len()) & space.starts_with(sheet),
+            Err(_) => false,
+        },
     }
-    // 16: the report space of the case is too short
-    if (number != 0) & (number != 16) {
-        return false;
-    }
-    let count = r.length;
-    if RECORDS < count {
-        return false;
-    }
-    let w = sheet_writer::write(&list[..9 * count], &mut space);
-    (w.number == 0) & (w.length == sheet.len()) & same_bytes(sheet, &space)
 }
 
-// Whether a case, whose numbers are read, comes out as it should.
-fn holds(stdin: &mut Stdin, h: &[u8; HEADER]) -> bool {
-    let size = number_at(h, 0);
-    let room = number_at(h, 8);
-    let length = number_at(h, 32);
-    if SHEET < size {
-        return false;
-    }
-    if SPACE < room {
-        return false;
-    }
-    if SPACE < length {
-        return false;
-    }
+// Whether a case, whose header is read, comes out as it should.
+fn holds(stdin: &mut Stdin, case: Case) -> bool {
     let mut sheet = [0u8; SHEET];
     let mut wanted = [0u8; SPACE];
     let mut space = [FILL; SPACE];
-    if read_full(stdin, &mut sheet[..size]) != size {
+    if read_full(stdin, &mut sheet[..case.sheet]) != case.sheet {
         return false;
     }
-    if read_full(stdin, &mut wanted[..length]) != length {
+    if read_full(stdin, &mut wanted[..case.report]) != case.report {
         return false;
     }
-    let a = writer::report(&sheet[..size], &mut space[..room]);
-    (a.number == (number_at(h, 16) as u64))
-        & (a.line == number_at(h, 24))
-        & (a.length == length)
-        & as_wanted(&space, &wanted, length)
-        & round_trip(&sheet[..size], number_at(h, 16), number_at(h, 24))
+    let sheet = &sheet[..case.sheet];
+    let answer = Answer::from(writer::report(sheet, &mut space[..case.space]));
+    (answer.number == case.number)
+        & (answer.line == case.line)
+        & (answer.length == case.report)
+        & as_wanted(&space, &wanted[..case.report])
+        & round_trip(sheet, case)
 }
 
 fn main(rt: HostRuntime) {
@@ -141,15 +116,15 @@ fn main(rt: HostRuntime) {
     let mut header = [0u8; HEADER];
     let mut tried: usize = 0;
     let mut different: usize = 0;
-    while tried < MOST {
+    for _ in 0..MOST {
         if read_full(&mut stdin, &mut header) != HEADER {
             break;
         }
         tried += 1;
-        if holds(&mut stdin, &header) {
-            continue;
+        match case_of(&header) {
+            Some(case) if holds(&mut stdin, case) => {}
+            _ => different += 1,
         }
-        different += 1;
     }
     match println!(rt; "{tried} cases, different: {different}") {
         Ok(()) | Err(_) => {}

@@ -6,7 +6,9 @@ use Prim.Native.Nat.{ℕ}
 use lib.Dec.{eqb, ltb}
 use lib.ListN.{length}
 use Rattle.quantity.specs.Limits.{Limits}
-use Rattle.sheet.specs.Kinds.{Kind, Unknown, letter}
+use Rattle.sheet.specs.Kinds.{letter}
+use Rattle.sheet.specs.declared.Kind.{Kind}
+use Rattle.sheet.specs.declared.Kind.TheVariants.{Unknown}
 use Rattle.checks.specs.Steps.{or_else, count_number, named_number, words_number}
 use Rattle.checks.specs.declared.above.Above.{Above}
 use Rattle.checks.proofs.Chain.{Fields, else_assoc}

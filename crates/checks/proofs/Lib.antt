@@ -2,3 +2,4 @@
 pub mod Chain
 pub mod Fitting
 pub mod Kind
+pub mod Judged

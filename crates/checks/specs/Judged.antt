@@ -4,7 +4,9 @@ use Rattle.std.specs.Prelude.{Bool, cond, ◌&&◌, ◌||◌, not, List, ◌∷�
 use Rattle.lines.specs.Records.{number}
 use Rattle.lines.specs.Words.{DASH}
 use Rattle.quantity.specs.Limits.{Limits}
-use Rattle.sheet.specs.Kinds.{Kind, Process, SourceStream, OwnGood, Unknown, letter, Rule, ◌to◌, method_rules, rules, named_fields, ends_of}
+use Rattle.sheet.specs.Kinds.{letter, Rule, ◌to◌, method_rules, rules, named_fields, ends_of}
+use Rattle.sheet.specs.declared.Kind.{Kind}
+use Rattle.sheet.specs.declared.Kind.TheVariants.{Process, SourceStream, OwnGood, Unknown}
 use Rattle.checks.specs.Steps.{or_else, words_number}
 use Rattle.checks.specs.declared.above.Above.{Above}
 

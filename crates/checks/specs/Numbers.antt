@@ -1,13 +1,14 @@
--- For the reader. Document 01, "Sheets sent back": the number of each refusal, 0 for an accepted sheet.
-use Rattle.std.specs.Prelude.{ℕ}
+-- For the reader. Document 01, "Sheets sent back": the number of each refusal, and 0 where nothing is refused.
+use Rattle.std.specs.Prelude.{ℕ, Result, Ok, Err, ⊤}
+use Rattle.sheet.specs.Verdict.{Verdict, refused}
 use Rattle.checks.specs.declared.refusals.Refusal.{Refusal}
-use Rattle.checks.specs.declared.refusals.Refusal.TheVariants.{Accepted, TooManyBytes, TooManyLines, LacksLF, UnknownKind}
+use Rattle.checks.specs.declared.refusals.Refused.{Refused}
+use Rattle.checks.specs.declared.refusals.Refusal.TheVariants.{TooManyBytes, TooManyLines, LacksLF, UnknownKind}
 use Rattle.checks.specs.declared.refusals.Refusal.TheVariants.{WrongFieldCount, NotNumber, OutOfRange, ProcessNotNext}
 use Rattle.checks.specs.declared.refusals.Refusal.TheVariants.{MissingProcess, EndsNotAllowed, NoStandardValue, SecondOfPair}
 use Rattle.checks.specs.declared.refusals.Refusal.TheVariants.{OutputExceeded, EmptySheet, FigureTooLarge, SpaceTooShort}
 
 abbrev pub refusal_number : Refusal → ℕ
-refusal_number Accepted = 0
 refusal_number TooManyBytes = 1
 refusal_number TooManyLines = 2
 refusal_number LacksLF = 3
@@ -24,3 +25,12 @@ refusal_number OutputExceeded = 13
 refusal_number EmptySheet = 14
 refusal_number FigureTooLarge = 15
 refusal_number SpaceTooShort = 16
+
+-- of what is judged by itself
+abbrev pub number_judged : Result ⊤ Refusal → ℕ
+number_judged (Ok _) = 0
+number_judged (Err r) = refusal_number r
+
+-- the verdict of a refusal and its line
+abbrev pub refused_by : Refused → Verdict
+refused_by r = refused (refusal_number r.refusal) r.line

@@ -2,10 +2,9 @@
 ghost use Rattle.std.specs.Prelude.{◌≡◌};
 ghost use Rattle.checks.specs.Numbers.{refusal_number};
 
-// What is wrong with a sheet, in the order of the table, or that nothing is.
-#[derive(Clone, Copy)]
+// What is wrong with a sheet, in the order of the table.
+#[derive(Clone, Copy, Debug, PartialEq, Eq)]
 pub enum Refusal {
-    Accepted,
     TooManyBytes,
     TooManyLines,
     LacksLF,
@@ -24,27 +23,44 @@ pub enum Refusal {
     SpaceTooShort,
 }
 
-// The table's number, 0 for an accepted sheet.
-pub fn refusal_number(r: Refusal) -> u64
-    ensures { result ≡ refusal_number r }
-{
-    match r {
-        Refusal::Accepted => 0,
-        Refusal::TooManyBytes => 1,
-        Refusal::TooManyLines => 2,
-        Refusal::LacksLF => 3,
-        Refusal::UnknownKind => 4,
-        Refusal::WrongFieldCount => 5,
-        Refusal::NotNumber => 6,
-        Refusal::OutOfRange => 7,
-        Refusal::ProcessNotNext => 8,
-        Refusal::MissingProcess => 9,
-        Refusal::EndsNotAllowed => 10,
-        Refusal::NoStandardValue => 11,
-        Refusal::SecondOfPair => 12,
-        Refusal::OutputExceeded => 13,
-        Refusal::EmptySheet => 14,
-        Refusal::FigureTooLarge => 15,
-        Refusal::SpaceTooShort => 16,
+// A refusal and its line, 0 where it is no line's.
+#[derive(Clone, Copy, Debug, PartialEq, Eq)]
+pub struct Refused {
+    pub refusal: Refusal,
+    pub line: usize,
+}
+
+// Of the whole sheet: no line's.
+impl From<Refusal> for Refused {
+    ghost from_gives = { λ r e. e ≡ record { refusal = r; line = 0 } };
+
+    fn from(refusal: Refusal) -> Refused {
+        Refused { refusal, line: 0 }
+    }
+}
+
+// The table's number.
+impl From<Refusal> for u64 {
+    ghost from_gives = { λ r n. n ≡ refusal_number r };
+
+    fn from(refusal: Refusal) -> u64 {
+        match refusal {
+            Refusal::TooManyBytes => 1,
+            Refusal::TooManyLines => 2,
+            Refusal::LacksLF => 3,
+            Refusal::UnknownKind => 4,
+            Refusal::WrongFieldCount => 5,
+            Refusal::NotNumber => 6,
+            Refusal::OutOfRange => 7,
+            Refusal::ProcessNotNext => 8,
+            Refusal::MissingProcess => 9,
+            Refusal::EndsNotAllowed => 10,
+            Refusal::NoStandardValue => 11,
+            Refusal::SecondOfPair => 12,
+            Refusal::OutputExceeded => 13,
+            Refusal::EmptySheet => 14,
+            Refusal::FigureTooLarge => 15,
+            Refusal::SpaceTooShort => 16,
+        }
     }
 }

@@ -4,6 +4,5 @@ pub mod Bools
 pub mod Spelling
 pub mod OneSpelling
 pub mod Widths
-pub mod Bits
 pub mod Writing
 pub mod Digits

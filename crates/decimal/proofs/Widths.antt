@@ -1,7 +1,7 @@
 -- How many digits a number has. Assumes nothing.
-use mathlib.Core.Path.{◌≡◌, ap, ◌∙◌}
+use mathlib.Core.Path.{◌≡◌, sym, ap, ◌∙◌}
 use mathlib.Core.List.{[], ◌∷◌}
-use Prim.Native.Nat.{ℕ, zero, suc, ◌+◌, ◌/◌, ◌%◌, ◌^◌, ◌≤◌, ◌<◌}
+use Prim.Native.Nat.{ℕ, zero, suc, max, ◌+◌, ◌*◌, ◌/◌, ◌%◌, ◌^◌, ◌≤◌, ◌<◌}
 use native.Mathlib.Nat.{lt_of_not-le, div-lt_iff_lt-mul, le-div_iff_mul-le, pow-suc}
 use native.Mathlib.Decide.{dec_le}
 use native.Mathlib.Omega.{arith}
@@ -37,6 +37,26 @@ length_at_least (suc k) n h =
     one_le_pow : (k : ℕ) → 1 ≤ 10 ^ k
     one_le_pow zero = omega arith
     one_le_pow (suc k) = rw (pow-suc 10 k) (omega (arith, one_le_pow k))
+
+-- one digit more than the power of ten that it reaches
+length_within : (k n : ℕ) → 10 ^ k ≤ n → n < 10 * 10 ^ k → length (spelling n) ≡ k + 1
+length_within k n low high =
+    let top : n < 10 ^ suc k = rw (pow-suc 10 k) (omega arith) in
+    omega (arith, length_at_least k n low, length_at_most k n top)
+
+-- 0 has as many digits as 1
+pub length_some : (k n : ℕ) → 10 ^ k ≤ max n 1 → max n 1 < 10 * 10 ^ k → k + 1 ≡ length (spelling n)
+length_some k n low high =
+    let whole = length_within k (max n 1) low high in
+    elim (dec_le 1 n) [
+      | yes p ↦ let e : max n 1 ≡ n = omega arith in sym (rw e at whole)
+      | no p ↦
+          let e : max n 1 ≡ 1 = omega arith in
+          omega (arith, rw e at whole, length_one 1 (omega arith), length_one n (omega arith))
+    ]
+
+pub length_two : (n : ℕ) → 10 ≤ n → 2 ≤ length (spelling n)
+length_two n h = length_at_least 1 n h
 
 pub twenty : (n : ℕ) → n < 2 ^ 64 → length (spelling n) ≤ 20
 twenty n h = length_at_most 19 n (let p : n < 10 ^ 20 = omega arith in p)

@@ -4,7 +4,8 @@ use mathlib.Core.Bool.{true}
 use Prim.Native.Nat.{ℕ}
 use lib.ListN.{get_or}
 use Rattle.lines.specs.declared.LineRead.{LineRead}
-use Rattle.sheet.specs.Kinds.{Kind, letter, kind, is}
+use Rattle.sheet.specs.Kinds.{letter, kind, is}
+use Rattle.sheet.specs.declared.Kind.{Kind}
 use Rattle.sheet.proofs.Table.{kind_letter, is_kind}
 use Rattle.entries.specs.Entries.{entry_of, entry}
 use Rattle.entries.specs.Read.{record_read}

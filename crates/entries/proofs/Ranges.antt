@@ -12,7 +12,8 @@ use Rattle.lines.specs.Records.{Field, number, dash, other, Record, field, numbe
 use Rattle.lines.specs.Words.{WORDS, DASH, OTHER}
 use Rattle.lines.specs.declared.LineRead.{LineRead}
 use Rattle.quantity.specs.Limits.{Limits, limits}
-use Rattle.sheet.specs.Kinds.{Kind, kind, Rule, method_rules, rules, rules_of}
+use Rattle.sheet.specs.Kinds.{kind, Rule, method_rules, rules, rules_of}
+use Rattle.sheet.specs.declared.Kind.{Kind}
 use Rattle.sheet.specs.Refusals.{not_number, out_of_range}
 use Rattle.sheet.specs.Ranges.{KeepsRules, KeepsRanges}
 use Rattle.sheet.proofs.Passed.{no_rule, keeps_count, in_range}

@@ -2,41 +2,25 @@
 use mathlib.Core.Path.{◌≡◌, refl, sym, ap, ◌∙◌, subst}
 use mathlib.Core.Bool.{Bool, true, false, not}
 use mathlib.Core.List.{List, [], ◌∷◌}
-use Prim.Native.Nat.{ℕ, zero, suc, ◌≤◌}
+use Prim.Native.Nat.{ℕ, suc, ◌≤◌}
 use native.Mathlib.Omega.{arith}
 use borrow.Author.Tests.{eq-eqb, ne_eqb, eqb-true, eqb-false}
 use lib.Dec.{eqb}
 use lib.ListN.{length, get_or}
 use Rattle.lines.specs.Records.{Field, number, Record, field, number_at}
 use Rattle.quantity.specs.Limits.{Limits}
-use Rattle.quantity.specs.Standard.{fuels, carbonates, fuel_of, carbonate_of, standard_a, standard_b}
+use Rattle.quantity.specs.Standard.{standard_a, standard_b}
 use Rattle.quantity.specs.Ranges.{StreamRange}
-use Rattle.quantity.proofs.Tables.{Lists, largest, at_found, net_calorific_values, emission_factors, carbonate_factors}
-use Rattle.sheet.specs.Kinds.{Kind, SourceStream, kind, Rule, ◌to◌, or_dash, exactly, kilos, share, method_rules, rules, rules_of, process_number}
+use Rattle.quantity.proofs.Tables.{calorific_small, factor_small, carbonate_small}
+use Rattle.sheet.specs.Kinds.{kind, Rule, ◌to◌, or_dash, exactly, kilos, share, method_rules, rules, rules_of, process_number}
+use Rattle.sheet.specs.declared.Kind.{Kind}
+use Rattle.sheet.specs.declared.Kind.TheVariants.{SourceStream}
 use Rattle.sheet.specs.Verdict.{All}
 use Rattle.sheet.specs.Ranges.{KeepsRules, KeepsRanges}
 use Rattle.sheet.proofs.Passed.{no_rule, fields_in_range}
 use Rattle.sheet.proofs.Table.{all_of, each_passes, by_method_lem}
 use Rattle.entries.specs.Weighed.{or_standard}
 use Rattle.entries.proofs.Ranges.{keeps_at, plain_number, given_small}
-
--- ---- standard values are in the ranges of the numbers that they stand for
-
-value_small : {l : List ℕ} {value : ℕ → ℕ} → Lists l value → (most : ℕ) → largest l ≤ most → (code : ℕ) → value code ≤ most
-value_small t most h zero = omega (arith, t.none)
-value_small t most h (suc k) = let f = at_found t most h (suc k) (λ (e : suc k ≡ 0). omega arith) in omega (arith, f.0, f.1)
-
-calorific_small : (code : ℕ) → (fuel_of code).net_calorific_value ≤ 200000
-unfolding fuels
-calorific_small = value_small net_calorific_values 200000 (omega arith)
-
-factor_small : (code : ℕ) → standard_b code ≤ 400000
-unfolding fuels
-factor_small = value_small emission_factors 400000 (omega arith)
-
-carbonate_small : (code : ℕ) → carbonate_of code ≤ 4000000
-unfolding carbonates
-carbonate_small = value_small carbonate_factors 4000000 (omega arith)
 
 -- ---- the record of a source stream
 
@@ -74,7 +58,7 @@ module _ (limits : Limits) (r : Record) (keeps : KeepsRanges limits r) (e : kind
   pub process_range : number_at r 0 ≤ limits.processes
   process_range = (fields_in_range own_row r.said kept 0 (omega arith) refl).1
 
-  method_range : (1 ≤ number_at r 1) × (number_at r 1 ≤ 4)
+  pub method_range : (1 ≤ number_at r 1) × (number_at r 1 ≤ 4)
   method_range = fields_in_range own_row r.said kept 1 (omega arith) refl
 
   -- a row of six rules whose code, c and d admit no `-`

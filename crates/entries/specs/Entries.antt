@@ -1,7 +1,9 @@
 -- For the code only: each line as one entry, which the code books: the grams it moves between processes, and what of them enters the works,
 -- leaves it and stays uncredited. Process 0 is outside the works. Laws join it to Attribution and Reckoning.
 use Rattle.lines.specs.Records.{Record}
-use Rattle.sheet.specs.Kinds.{Kind, Process, SourceStream, MeasurableHeat, WasteGas, Electricity, BoughtPrecursor, OwnGood, Unknown, kind}
+use Rattle.sheet.specs.Kinds.{kind}
+use Rattle.sheet.specs.declared.Kind.{Kind}
+use Rattle.sheet.specs.declared.Kind.TheVariants.{Process, SourceStream, MeasurableHeat, WasteGas, Electricity, BoughtPrecursor, OwnGood, Unknown}
 use Rattle.sheet.specs.Refusals.{process, from, to}
 use Rattle.ledger.specs.Moved.{no_grams_moved, stream_moved, heat_moved, gas_moved, electricity_moved, bought_moved}
 use Rattle.entries.specs.Weighed.{stream_of, heat_of, charge_of, credit_of, electricity_of, bought_direct_of, bought_indirect_of}

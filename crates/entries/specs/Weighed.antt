@@ -4,7 +4,8 @@ use Rattle.quantity.specs.Streams.{stream_grams}
 use Rattle.quantity.specs.Standard.{standard_a, standard_b}
 use Rattle.quantity.specs.Weights.{weight, waste_gas_charge, waste_gas_credit}
 use Rattle.lines.specs.Records.{Field, number, dash, other, Record, field, number_at}
-use Rattle.sheet.specs.Kinds.{SourceStream, MeasurableHeat, WasteGas, Electricity, BoughtPrecursor, is}
+use Rattle.sheet.specs.Kinds.{is}
+use Rattle.sheet.specs.declared.Kind.TheVariants.{SourceStream, MeasurableHeat, WasteGas, Electricity, BoughtPrecursor}
 
 -- `-` means the standard value; a number written there governs over the table
 abbrev pub or_standard : Field → (standard : ℕ) → ℕ

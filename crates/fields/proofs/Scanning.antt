@@ -1,23 +1,24 @@
 -- One pass over a field: what is known at each byte, and what a field says by its first byte and its length. Assumes nothing.
 use mathlib.Core.Path.{◌≡◌, refl, sym, ap, ◌∙◌}
 use mathlib.Core.Bool.{Bool, true, false, cond, ◌&&◌}
-use mathlib.Core.Logic.{◌⊎◌, ⊎_elim, inl, inr}
+use mathlib.Core.Logic.{◌⊎◌, ⊎_elim}
 use mathlib.Core.List.{List, [], ◌∷◌}
 use Prim.Native.Nat.{ℕ, suc, ◌+◌, ◌-◌, ◌*◌, min, ◌≤◌, ◌<◌}
 use native.Mathlib.Nat.{le_refl, le_trans, lt_of_not-le}
 use native.Mathlib.Decide.{dec_le}
 use native.Mathlib.Numerals.{add-one}
 use native.Mathlib.Omega.{arith}
-use borrow.Author.Tests.{eq-eqb, ne_eqb, leb-true}
+use borrow.Author.Tests.{eq-eqb, ne_eqb, leb-true, le-leb, lt-leb}
 use lib.Dec.{leb}
-use lib.ListN.{length, take, drop, get_or, length-take, length-drop}
-use lib.Seq.{drop-cons, drop-length, get_or-take, get_or-drop}
+use lib.ListN.{length, take, drop, get_or}
+use lib.Seq.{drop-cons, drop-length}
 use Rattle.decimal.specs.Number.{is_digit, all_digits, is_number, value_from, value}
+use Rattle.std.specs.Prelude.{Option, Some, None, MatchOption, IsSomeAnd}
 use Rattle.decimal.proofs.Bools.{and_both}
 use Rattle.lines.specs.Lines.{LF, COMMA}
 use Rattle.lines.specs.Records.{Field, number, dash, other, field_of}
 use Rattle.lines.specs.Words.{CAP, word}
-use Rattle.fields.specs.Scan.{field_length, field_at, said_of, word_of, Capped, digits_said, digits_from, EndsInLF}
+use Rattle.fields.specs.Scan.{field_length, field_at, said_of, word_of, Capped, HeldCapped, said_by, digits_from, EndsInLF}
 use Rattle.fields.specs.Scan.{Scanning, ScannedAt, FieldReadAt, FieldBounds}
 use Rattle.fields.specs.declared.Said.{Said}
 use Rattle.fields.specs.declared.Said.TheVariants.{Number, Dash, Other}
@@ -96,91 +97,118 @@ cut n bs =
       | no h ↦ let g : CAP < n = lt_of_not-le h in omega (arith, grows n bs, grows (min n CAP) bs)
     ]
 
-digit_next : (all : Bool) (n b : ℕ) (bs : List ℕ) → is_digit b ≡ true
-    → digits_from all (min (n * 10 + (b - 48)) CAP) bs ≡ digits_from all n (b ∷ bs)
+digit_next : (n b : ℕ) (bs : List ℕ) → is_digit b ≡ true
+    → digits_from (Some (min (n * 10 + (b - 48)) CAP)) bs ≡ digits_from (Some n) (b ∷ bs)
 unfolding digits_from all_digits value_from
-digit_next all n b bs h = rw (h, cut)
+digit_next n b bs h = rw (h, cut)
 
-other_next : (all : Bool) (n b : ℕ) (bs : List ℕ) → is_digit b ≡ false → digits_from false n bs ≡ digits_from all n (b ∷ bs)
+-- no digit any more, whatever follows
+digit_none : (b : ℕ) (bs : List ℕ) → digits_from None bs ≡ digits_from None (b ∷ bs)
+unfolding digits_from
+digit_none b bs = refl
+
+other_next : (held : Option ℕ) (b : ℕ) (bs : List ℕ) → is_digit b ≡ false → digits_from None bs ≡ digits_from held (b ∷ bs)
 unfolding digits_from all_digits
-other_next true n b bs h = rw h
-other_next false n b bs h = refl
+other_next (Some n) b bs h = rw h
+other_next None b bs h = refl
 
-pub digits_none : (all : Bool) (n : ℕ) → n ≤ CAP → digits_said all n ≡ digits_from all n []
+pub digits_none : (held : Option ℕ) → HeldCapped held → held ≡ digits_from held []
 unfolding digits_from all_digits value_from
-digits_none true n h = ap Number (let e : n ≡ min n CAP = omega arith in e)
-digits_none false n h = refl
+digits_none (Some n) h = ap Some (let e : n ≡ min n CAP = omega arith in e)
+digits_none None h = refl
 
 -- ---- the pass
 
 -- what the pass gives where it stops
-abbrev stopped : (value : ℕ) → (all : Bool) → (end : ℕ) → Scanned
-stopped value all end = record { value = value; all = all; end = end }
+abbrev stopped : (held : Option ℕ) → (end : ℕ) → Scanned
+stopped held end = record { number = held; end = end }
 
-pub none_scanned : (s : List ℕ) (start : ℕ) → start ≤ length s → Scanning s start 0 true start
-none_scanned s start h = record { least = le_refl start; inside = h; capped = omega arith; ends = refl; said = refl }
+pub none_scanned : (s : List ℕ) (start : ℕ) → start ≤ length s → Scanning s start (Some 0) start
+none_scanned s start h = record { least = le_refl start; inside = h; capped = omega arith; ends = refl; number_is = refl }
 
-module _ (s : List ℕ) (start value : ℕ) (all : Bool) (end : ℕ) (k : Scanning s start value all end) where
+module _ (s : List ℕ) (start : ℕ) (held : Option ℕ) (end : ℕ) (k : Scanning s start held end) where
   -- the field ends where no byte of it is left
-  scanned : field_length (drop end s) ≡ 0 → ScannedAt s start (stopped value all end)
+  scanned : field_length (drop end s) ≡ 0 → ScannedAt s start (stopped held end)
   scanned z =
       record {
-        said = digits_none all value k.capped ∙ ap (λ (n : ℕ). digits_from all value (take n (drop end s))) (sym z) ∙ k.said;
+        number_is = digits_none held k.capped ∙ ap (λ (n : ℕ). digits_from held (take n (drop end s))) (sym z) ∙ k.number_is;
         end = omega (arith, k.ends);
         most = k.inside;
       }
 
-  pub scanned_end : length s ≤ end → ScannedAt s start (stopped value all end)
+  pub scanned_end : length s ≤ end → ScannedAt s start (stopped held (length s))
   scanned_end h =
       let e : end ≡ length s = omega (arith, k.inside) in
-      scanned (ap (λ (j : ℕ). field_length (drop j s)) e ∙ ap field_length (drop-length s) ∙ field_none)
+      rw e at (scanned (ap (λ (j : ℕ). field_length (drop j s)) e ∙ ap field_length (drop-length s) ∙ field_none))
 
   module _ (h : end < length s) where
     abbrev b : ℕ
     b = get_or s end 0
 
-    scanned_stop : Stop b → ScannedAt s start (stopped value all end)
+    pub scanned_stop : Stop b → ScannedAt s start (stopped held end)
     scanned_stop w = scanned (field_stop s end h w)
-
-    pub scanned_lf : b ≡ LF → ScannedAt s start (stopped value all end)
-    scanned_lf e = scanned_stop (inr e)
-
-    pub scanned_comma : b ≡ COMMA → ScannedAt s start (stopped value all end)
-    scanned_comma e = scanned_stop (inl e)
 
     -- one more byte of the field
     module _ (p : b ≡ LF → ⊥) (q : b ≡ COMMA → ⊥) where
-      further : (n : ℕ) (a : Bool) → n ≤ CAP → digits_from a n (field_at s (end + 1)) ≡ digits_from all value (b ∷ field_at s (end + 1))
-          → Scanning s start n a (end + 1)
-      further n a c e =
+      further : (n : Option ℕ) → HeldCapped n → digits_from n (field_at s (end + 1)) ≡ digits_from held (b ∷ field_at s (end + 1))
+          → Scanning s start n (end + 1)
+      further n c e =
           record {
             least = omega (arith, k.least);
             inside = omega arith;
             capped = c;
             ends = omega (arith, longer s end h p q, k.ends);
-            said = e ∙ ap (digits_from all value) (sym (field_left s end h p q)) ∙ k.said;
+            number_is = e ∙ ap (digits_from held) (sym (field_left s end h p q)) ∙ k.number_is;
           }
 
-      pub other_scanned : is_digit b ≡ false → Scanning s start value false (end + 1)
-      other_scanned d = further value false k.capped (other_next all value b (field_at s (end + 1)) d)
+      other_scanned : is_digit b ≡ false → Scanning s start None (end + 1)
+      other_scanned d = further None tt (other_next held b (field_at s (end + 1)) d)
 
-    pub digit_scanned : is_digit b ≡ true → Scanning s start (min (value * 10 + (b - 48)) CAP) all (end + 1)
-    digit_scanned d =
-        let r = digit_range b d in
-        further (λ e. omega arith) (λ e. omega arith) (min (value * 10 + (b - 48)) CAP) all (omega arith) (digit_next all value b (field_at s (end + 1)) d)
+      none_left : held ≡ None → Scanning s start None (end + 1)
+      none_left e =
+          further None tt (digit_none b (field_at s (end + 1)) ∙ ap (λ (n : Option ℕ). digits_from n (b ∷ field_at s (end + 1))) (sym e))
+
+    -- a byte below `0`, or above `9`
+    pub below_none : (b ≡ LF → ⊥) → (b ≡ COMMA → ⊥) → b < 48 → Scanning s start None (end + 1)
+    below_none p q l = other_scanned p q (simp (lt-leb 48 b l))
+
+    pub above_none : 57 < b → Scanning s start None (end + 1)
+    above_none g = other_scanned (λ e. omega arith) (λ e. omega arith) (simp (lt-leb b 57 g, le-leb 48 b (omega arith)))
+
+module _ (s : List ℕ) (start : ℕ) where
+  pub digit_scanned : (value end : ℕ) → Scanning s start (Some value) end → end < length s → is_digit (get_or s end 0) ≡ true
+      → Scanning s start (Some (min (value * 10 + (get_or s end 0 - 48)) CAP)) (end + 1)
+  digit_scanned value end k h d =
+      let b = get_or s end 0 in
+      let r = digit_range b d in
+      further s start (Some value) end k h (λ e. omega arith) (λ e. omega arith) (Some (min (value * 10 + (b - 48)) CAP)) (omega arith)
+      (digit_next value b (field_at s (end + 1)) d)
+
+  -- a digit more, where all were digits, and else no number any more
+  module _ (held : Option ℕ) (end : ℕ) (k : Scanning s start held end) (h : end < length s) (l : 48 ≤ get_or s end 0) (g : get_or s end 0 ≤ 57) where
+    pub digit_step : (next : Option ℕ) {Gives : ℕ → ℕ → Type 0} → MatchOption held (next ≡ None) (λ (n : ℕ). IsSomeAnd next (Gives n))
+        → ((n m : ℕ) → Gives n m → m ≡ min (n * 10 + (get_or s end 0 - 48)) CAP) → Scanning s start next (end + 1)
+    digit_step next {Gives = Gives} c f = go held k next c
+      where
+        go : (held : Option ℕ) → Scanning s start held end → (next : Option ℕ)
+            → MatchOption held (next ≡ None) (λ (n : ℕ). IsSomeAnd next (Gives n)) → Scanning s start next (end + 1)
+        go (Some n) k (Some m) e =
+            rw (f n m e) (digit_scanned n end k h (simp (le-leb 48 (get_or s end 0) l, le-leb (get_or s end 0) 57 g)))
+        go (Some n) k None e = absurd e
+        go None k next e = rw e (none_left s start None end k h (λ e. omega arith) (λ e. omega arith) refl)
 
 -- ---- what a field says
 
 -- a field whose bytes are taken for digits
 abbrev digits : List ℕ → Said
-digits f = digits_from true 0 f
+digits f = said_by (digits_from (Some 0) f)
 
-said_none : (f : List ℕ) → length f ≡ 0 → said_of (field_of f) ≡ Other
+pub said_none : (f : List ℕ) → length f ≡ 0 → said_of (field_of f) ≡ Other
 unfolding field_of is_number
 said_none [] h = refl
 said_none (b ∷ f) h = absurd (omega arith)
 
-said_dash : (f : List ℕ) → length f ≡ 1 → get_or f 0 0 ≡ 45 → said_of (field_of f) ≡ Dash
+pub said_dash : (f : List ℕ) → length f ≡ 1 → get_or f 0 0 ≡ 45 → said_of (field_of f) ≡ Dash
 unfolding field_of is_number
 said_dash [] h e = absurd (omega arith)
 said_dash (b ∷ []) h e = ap (λ (x : ℕ). said_of (field_of (x ∷ []))) e
@@ -191,12 +219,12 @@ unfolding field_of is_number digits_from all_digits
 said_one [] h n = absurd (omega arith)
 said_one (b ∷ []) h n = simp (ne_eqb b 45 n) (go (is_digit b))
   where
-    go : (t : Bool) → said_of (cond t (number (value (b ∷ []))) other) ≡ digits_said (t && true) (min (value (b ∷ [])) CAP)
+    go : (t : Bool) → said_of (cond t (number (value (b ∷ []))) other) ≡ said_by (cond (t && true) (Some (min (value (b ∷ [])) CAP)) None)
     go true = refl
     go false = refl
 said_one (b ∷ c ∷ f) h n = absurd (omega arith)
 
-said_zero : (f : List ℕ) → 1 < length f → get_or f 0 0 ≡ 48 → said_of (field_of f) ≡ Other
+pub said_zero : (f : List ℕ) → 1 < length f → get_or f 0 0 ≡ 48 → said_of (field_of f) ≡ Other
 unfolding field_of is_number
 said_zero [] h e = absurd (omega arith)
 said_zero (b ∷ []) h e = absurd (omega arith)
@@ -208,7 +236,7 @@ said_many [] h n = absurd (omega arith)
 said_many (b ∷ []) h n = absurd (omega arith)
 said_many (b ∷ c ∷ f) h n = simp (ne_eqb b 48 n) (go (all_digits (b ∷ c ∷ f)))
   where
-    go : (t : Bool) → said_of (cond t (number (value (b ∷ c ∷ f))) other) ≡ digits_said t (min (value (b ∷ c ∷ f)) CAP)
+    go : (t : Bool) → said_of (cond t (number (value (b ∷ c ∷ f))) other) ≡ said_by (cond t (Some (min (value (b ∷ c ∷ f)) CAP)) None)
     go true = refl
     go false = refl
 
@@ -223,57 +251,29 @@ FieldDone s start said end =
     FieldReadAt s start (record { said = said; end = end }) × FieldBounds s start (record { said = said; end = end })
 
 module _ (s : List ℕ) (start : ℕ) (f : Scanned) (k : ScannedAt s start f) where
-  long : length (field_at s start) ≡ f.end - start
-  long = rw (length-take, length-drop) (omega (arith, k.end, k.most))
+  -- the bytes from the field's start to its end
+  abbrev bytes : List ℕ
+  bytes = take (f.end - start) (drop start s)
 
-  first : (f.end ≡ start → ⊥) → get_or (field_at s start) 0 0 ≡ get_or s start 0
-  first n =
-      let h : 0 < field_length (drop start s) =
-      elim (dec_le 1 (field_length (drop start s))) [
-        | yes g ↦ g
-        | no g ↦ absurd (n (let z = lt_of_not-le g in omega (arith, k.end)))
-      ] in
-      rw (get_or-take (field_length (drop start s)) (drop start s) 0 0 h, get_or-drop) (ap (λ (n : ℕ). get_or s n 0) (let e : start + 0 ≡ start = omega arith in e))
+  bytes_lem : bytes ≡ field_at s start
+  bytes_lem =
+      ap (λ (n : ℕ). take n (drop start s)) (let e : f.end - start ≡ field_length (drop start s) = omega (arith, k.end) in e)
 
-  done : (said : Said) → said ≡ said_of (field_of (field_at s start)) → FieldDone s start said f.end
-  done said e = (
-    record { said = e; end = k.end },
-    record { least = omega (arith, k.end); most = k.most; capped = rw e (said_capped (field_of (field_at s start))) },
-  )
+  pub done : (said : Said) → said ≡ said_of (field_of bytes) → FieldDone s start said f.end
+  done said e =
+      let says : said ≡ said_of (field_of (field_at s start)) = e ∙ ap (λ (b : List ℕ). said_of (field_of b)) bytes_lem in (
+        record { said = says; end = k.end },
+        record { least = omega (arith, k.end); most = k.most; capped = rw says (said_capped (field_of (field_at s start))) },
+      )
 
-  pub done_none : f.end ≡ start → FieldDone s start Other f.end
-  done_none h = done Other (sym (said_none (field_at s start) (omega (arith, long))))
-
-  module _ (h : f.end ≡ start + 1) where
-    one : length (field_at s start) ≡ 1
-    one = omega (arith, long)
-
-    start_is : get_or (field_at s start) 0 0 ≡ get_or s start 0
-    start_is = first (λ e. omega arith)
-
-    pub done_dash : get_or s start 0 ≡ 45 → FieldDone s start Dash f.end
-    done_dash e = done Dash (sym (said_dash (field_at s start) one (start_is ∙ e)))
-
-    pub done_one : (get_or s start 0 ≡ 45 → ⊥) → (said : Said) → said ≡ digits_said f.all f.value → FieldDone s start said f.end
-    done_one n said e = done said (e ∙ k.said ∙ sym (said_one (field_at s start) one (λ q. n (sym start_is ∙ q))))
-
-  module _ (p : f.end ≡ start → ⊥) (q : f.end ≡ start + 1 → ⊥) where
-    several : 1 < length (field_at s start)
-    several =
-        elim (dec_le (length (field_at s start)) 1) [
-          | yes g ↦
-              elim (dec_le f.end start) [
-                | yes i ↦ absurd (p (omega (arith, k.end)))
-                | no i ↦ absurd (q (let z : start < f.end = lt_of_not-le i in omega (arith, long)))
-              ]
-          | no g ↦ lt_of_not-le g
-        ]
-
-    pub done_zero : get_or s start 0 ≡ 48 → FieldDone s start Other f.end
-    done_zero e = done Other (sym (said_zero (field_at s start) several (first p ∙ e)))
-
-    pub done_many : (get_or s start 0 ≡ 48 → ⊥) → (said : Said) → said ≡ digits_said f.all f.value → FieldDone s start said f.end
-    done_many n said e = done said (e ∙ k.said ∙ sym (said_many (field_at s start) several (λ q. n (sym (first p) ∙ q))))
+  -- a number, if all bytes are digits
+  pub done_digits : said_of (field_of bytes) ≡ digits bytes → (said : Said) → MatchOption f.number (said ≡ Other) (λ (n : ℕ). said ≡ Number n)
+      → FieldDone s start said f.end
+  done_digits e said m = done said (says f.number m ∙ ap said_by k.number_is ∙ ap digits (sym bytes_lem) ∙ sym e)
+    where
+      says : (held : Option ℕ) → MatchOption held (said ≡ Other) (λ (n : ℕ). said ≡ Number n) → said ≡ said_by held
+      says (Some n) e = e
+      says None e = e
 
 -- the word of what is said
 pub word_said : (f : Field) → word_of (said_of f) ≡ word f

@@ -1,5 +1,5 @@
 -- For the code only: a field as the code finds it. Laws join it to Records.
-use Rattle.std.specs.Prelude.{◌≡◌, Bool, true, cond, ◌&&◌, List, [], ◌∷◌, ℕ, suc, ◌+◌, ◌-◌, min, ◌≤◌, eqb, length, take, drop, get_or}
+use Rattle.std.specs.Prelude.{◌≡◌, cond, Option, Some, None, List, [], ◌∷◌, ℕ, suc, ◌+◌, ◌-◌, min, ◌≤◌, eqb, length, take, drop, get_or}
 use Rattle.decimal.specs.Number.{all_digits, value_from}
 use Rattle.lines.specs.Lines.{LF, COMMA}
 use Rattle.lines.specs.Records.{Field, number, dash, other, field_of}
@@ -37,24 +37,31 @@ Capped Dash = Unit {0}
 Capped Other = Unit {0}
 
 -- a number, where all bytes were digits
-abbrev pub digits_said : (all : Bool) → (value : ℕ) → Said
-digits_said all value = cond all (Number value) Other
+abbrev pub said_by : (held : Option ℕ) → Said
+said_by (Some n) = Number n
+said_by None = Other
 
--- bytes as digits, after digits of the value n
-unfoldable pub digits_from : (all : Bool) → (n : ℕ) → List ℕ → Said
-digits_from all n bytes = digits_said (all && all_digits bytes) (min (value_from n bytes) CAP)
+-- bytes as digits, after digits of the value n, or after a byte that is none
+unfoldable pub digits_from : (held : Option ℕ) → List ℕ → Option ℕ
+digits_from (Some n) bytes = cond (all_digits bytes) (Some (min (value_from n bytes) CAP)) None
+digits_from None bytes = None
 
--- what is known once the bytes from start to end are looked at: their value as digits, and whether all are
-pub record Scanning (sheet : List ℕ) (start value : ℕ) (all : Bool) (end : ℕ) : Type 0 where
+-- a value that is held is at most CAP
+abbrev pub HeldCapped : Option ℕ → Type 0
+HeldCapped (Some n) = n ≤ CAP
+HeldCapped None = Unit {0}
+
+-- what is known once the bytes from start to end are looked at: their value as digits, if all are digits
+pub record Scanning (sheet : List ℕ) (start : ℕ) (held : Option ℕ) (end : ℕ) : Type 0 where
   pub least : start ≤ end
   pub inside : end ≤ length sheet
-  pub capped : value ≤ CAP
+  pub capped : HeldCapped held
   pub ends : end + field_length (drop end sheet) ≡ start + field_length (drop start sheet)
-  pub said : digits_from all value (field_at sheet end) ≡ digits_from true 0 (field_at sheet start)
+  pub number_is : digits_from held (field_at sheet end) ≡ digits_from (Some 0) (field_at sheet start)
 
 -- the field that starts at a place of the sheet, its bytes taken for digits
 pub record ScannedAt (sheet : List ℕ) (start : ℕ) (f : Scanned) : Type 0 where
-  pub said : digits_said f.all f.value ≡ digits_from true 0 (field_at sheet start)
+  pub number_is : f.number ≡ digits_from (Some 0) (field_at sheet start)
   pub end : f.end ≡ start + field_length (drop start sheet)
   pub most : f.end ≤ length sheet
 

@@ -1,10 +1,8 @@
 // A field read from the sheet's bytes: what stands between two commas, or before the LF.
 #![tactic(auto)]
 
-ghost use Rattle.std.specs.Prelude.{◌≡◌, true, ◌+◌, min, ◌≤◌, ◌<◌, length, drop};
-ghost use Rattle.decimal.specs.Number.{is_digit};
-ghost use Rattle.lines.specs.Words.{CAP};
-ghost use Rattle.fields.specs.Scan.{field_length, word_of, digits_said};
+ghost use Rattle.std.specs.Prelude.{◌≡◌, ◌+◌, ◌≤◌, length, drop};
+ghost use Rattle.fields.specs.Scan.{field_length, word_of, said_by};
 ghost use Rattle.fields.specs.Scan.{ScannedAt, FieldReadAt, FieldBounds};
 
 use lines::{CAP, DASH, OTHER};
@@ -17,39 +15,39 @@ pub enum Said {
     Other,
 }
 
-// A field that was read, and the place of the comma or LF behind it, or of the sheet's end.
+// A field in one word.
+impl From<Said> for u64 {
+    ghost from_gives = { λ said word. word ≡ word_of said };
+
+    fn from(said: Said) -> u64 {
+        match said {
+            Said::Number(n) => n,
+            Said::Dash => DASH,
+            Said::Other => OTHER,
+        }
+    }
+}
+
+// A field that was read, and the place of the comma or LF behind it, or of the sheet's end. A struct of its own beside `Scanned`,
+// and no generic one: the field's name says what was read.
 #[derive(Clone, Copy)]
 pub struct FieldRead {
     pub said: Said,
     pub end: usize,
 }
 
-// The bytes of a field taken for digits: their value, whether all are digits, and the field's end.
+// The bytes of a field taken for digits: their value, if all of them are digits, and the field's end.
 #[derive(Clone, Copy)]
 struct Scanned {
-    value: u64,
-    all: bool,
+    number: Option<u64>,
     end: usize,
 }
 
-// A decimal digit, `0` to `9`.
-pub fn is_digit(byte: u8) -> bool
-    ensures { result ≡ is_digit byte }
-{
-    if byte < 48 { false } else { byte <= 57 }
-}
-
-pub fn wide(byte: u8) -> u64
-    ensures { result ≡ byte }
-{
-    byte as u64
-}
-
-// A number, or CAP for each above it.
-fn capped(n: u64) -> u64
-    ensures { result ≡ min n CAP }
-{
-    if n <= CAP { n } else { CAP }
+// What stands behind a field: a comma, or the LF that ends the line.
+#[derive(Clone, Copy)]
+pub enum Stop {
+    Comma,
+    LineEnd,
 }
 
 // The field that starts here, in one pass over its bytes: it ends at a comma, at the LF or where the sheet ends.
@@ -57,35 +55,19 @@ fn scan_field(s: &[u8], start: usize) -> Scanned
     requires { start ≤ length s.now }
     ensures { ScannedAt s.now start result }
 {
-    let mut value: u64 = 0;
-    let mut all = true;
-    let mut end = start;
-    while end < s.len() {
-        let byte = s[end];
-        if is_digit(byte) {
-            value = capped(value * 10 + wide(byte - 48));
-        } else {
-            if byte == b',' {
-                return Scanned { value, all, end };
+    let mut number = Some(0);
+    for end in start..s.len() {
+        match s[end] {
+            digit @ b'0'..=b'9' => {
+                number = number.map(|n| (n * 10 + u64::from(digit - b'0')).min(CAP));
             }
-            if byte == b'\n' {
-                return Scanned { value, all, end };
-            }
-            all = false;
+            b',' | b'\n' => return Scanned { number, end },
+            _ => number = None,
         }
-        end += 1;
     }
-    Scanned { value, all, end }
-}
-
-// A number, if all bytes are digits.
-fn digits_said(f: Scanned) -> Said
-    ensures { result ≡ digits_said f.all f.value }
-{
-    if f.all {
-        Said::Number(f.value)
-    } else {
-        Said::Other
+    Scanned {
+        number,
+        end: s.len(),
     }
 }
 
@@ -96,47 +78,12 @@ pub fn read_field(s: &[u8], start: usize) -> FieldRead
     ensures bounded { FieldBounds s.now start result }
 {
     let f = scan_field(s, start);
-    let end = f.end;
-    if end == start {
-        return FieldRead {
-            said: Said::Other,
-            end,
-        };
-    }
-    let first = s[start];
-    if end == start + 1 {
-        if first == b'-' {
-            return FieldRead {
-                said: Said::Dash,
-                end,
-            };
-        }
-        return FieldRead {
-            said: digits_said(f),
-            end,
-        };
-    }
-    if first == b'0' {
-        return FieldRead {
-            said: Said::Other,
-            end,
-        };
-    }
-    FieldRead {
-        said: digits_said(f),
-        end,
-    }
-}
-
-// A field in one word.
-pub fn word_of(said: Said) -> u64
-    ensures { result ≡ word_of said }
-{
-    match said {
-        Said::Number(n) => n,
-        Said::Dash => DASH,
-        Said::Other => OTHER,
-    }
+    let said = match &s[start..f.end] {
+        [] | [b'0', _, ..] => Said::Other,
+        [b'-'] => Said::Dash,
+        _ => f.number.map_or(Said::Other, Said::Number),
+    };
+    FieldRead { said, end: f.end }
 }
 
 // The place behind the line's first field.
@@ -145,6 +92,5 @@ pub fn first_end(s: &[u8], start: usize) -> usize
     ensures value { result ≡ start + field_length (drop start s.now) }
     ensures bounded { result ≤ length s.now }
 {
-    let first = scan_field(s, start);
-    first.end
+    scan_field(s, start).end
 }

@@ -5,7 +5,7 @@ use Prim.Native.Nat.{ℕ, suc, ◌+◌, ◌≤◌, ◌<◌}
 use native.Mathlib.Numerals.{add-one}
 use native.Mathlib.Omega.{arith}
 use lib.ListN.{length, take, drop, get_or, length-append, take-append-drop}
-use lib.Seq.{take-suc, take-take}
+use lib.Seq.{take-suc}
 use Rattle.decimal.specs.Spelling.{spelling}
 use Rattle.figures.specs.declared.Figure.{Figure}
 use Rattle.figures.specs.declared.Figure.TheVariants.{Whole, Minus, Parts}
@@ -67,13 +67,8 @@ minus_long e = rw e (omega arith)
 pub parts_long : {f : Figure} {w t : ℕ} → f ≡ Parts w t → length (spelt f) ≡ length (spelling w) + 4
 parts_long {f} {w} {t} e = rw e (length_parts w t)
 
-tailed_part : (i : ℕ) (l : List Figure) → length (tailed (take i l)) ≤ length (tailed l)
-tailed_part i l =
+-- the first fields are no longer than all
+pub tailed_within : (i : ℕ) (l : List Figure) → length (tailed (take i l)) ≤ length (tailed l)
+tailed_within i l =
     let e = ap (λ (x : List Figure). length (tailed x)) (take-append-drop i l) in
     omega (arith, e, ap length (tailed_append (take i l) (drop i l)), length-append (tailed (take i l)) (tailed (drop i l)))
-
--- the first fields are no longer than more of them
-pub tailed_within : (fs : List Figure) (i n : ℕ) → i ≤ n → length (tailed (take i fs)) ≤ length (tailed (take n fs))
-tailed_within fs i n h =
-    let p = tailed_part i (take n fs) in
-    rw (take-take i n fs h) at p

@@ -5,10 +5,6 @@ use Rattle.report.specs.Spelling as report
 use Rattle.figures.specs.declared.Figure.{Figure}
 use Rattle.figures.specs.declared.Figure.TheVariants.{Whole, Minus, Parts}
 
--- as many fields as the longest line has behind its letter
-abbrev pub FIELDS : ℕ
-FIELDS = 10
-
 -- the last three digits, also where the first are 0
 unfoldable pub three : ℕ → List ℕ
 three t = (48 + t / 100 % 10) ∷ (48 + t / 10 % 10) ∷ (48 + t % 10) ∷ []

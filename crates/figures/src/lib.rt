@@ -1,14 +1,11 @@
 // Document 01, "The report": fields and lines written into a lent space. The definitions are in specs/ and in the report's.
 #![tactic(auto)]
 
-ghost use Rattle.std.specs.Prelude.{◌∷◌, ◌+◌, ◌≤◌, length, take};
+ghost use Rattle.std.specs.Prelude.{◌∷◌, ◌+◌, ◌≤◌, length};
 ghost use Rattle.decimal.specs.Writing.{Put};
-ghost use Rattle.figures.specs.Figures.{FIELDS, three, spelt, tailed, line};
+ghost use Rattle.figures.specs.Figures.{three, spelt, tailed, line};
 
 use space::put_byte;
-
-// As many fields as the longest line has behind its letter.
-pub const FIELDS: usize = 10;
 
 // A field of the report: a whole figure, one below zero, or a whole part and thousandths.
 #[derive(Clone, Copy)]
@@ -48,23 +45,14 @@ pub fn put_figure(space: &mut [u8], at: usize, f: Figure) -> usize
     }
 }
 
-// Writes a line of the first n fields: its letter, each field after a comma, LF.
-pub fn put_line(
-    space: &mut [u8],
-    at: usize,
-    letter: u8,
-    fields: [Figure; FIELDS],
-    n: usize,
-) -> usize
-    requires { (n ≤ FIELDS) × (at + (length (tailed (take n fields)) + 2) ≤ length space.old) }
-    ensures { Put space.old at (line letter (take n fields)) space.new result }
+// Writes a line: its letter, each field after a comma, LF.
+pub fn put_line(space: &mut [u8], at: usize, letter: u8, fields: &[Figure]) -> usize
+    requires { at + (length (tailed fields.now) + 2) ≤ length space.old }
+    ensures { Put space.old at (line letter fields.now) space.new result }
 {
     let mut next = put_byte(space, at, letter);
-    let mut i: usize = 0;
-    while i < n {
-        let f = fields[i];
-        next = put_figure(space, next, f);
-        i += 1;
+    for &field in fields {
+        next = put_figure(space, next, field);
     }
     put_byte(space, next, b'\n')
 }

@@ -79,12 +79,12 @@ module _ (all rest : List Line) (line : Line) (w : Works) (kilos : List ℕ) (rd
   pub accepted_here : line_given line w kilos l ≡ 0 → first_of (line_checks limits rd.above line) ≡ accepted
   accepted_here z = line_accepted limits small_limits rd.above line (above_of w kilos l) held (sym given_is ∙ z)
 
-  pub refused_here : (n : ℕ) → line_given line w kilos l ≡ n → (n ≡ 0 → ⊥) → first_of (lines_checks limits [] all) ≡ refused n (w.lines + 1)
+  pub refused_here : (n : ℕ) → line_given line w kilos l ≡ n → (n ≡ 0 → ⊥) → first_of (lines_checks limits [] all) ≡ refused n (w.noted.lines + 1)
   unfolding lines_checks
   refused_here n e some =
-      let number : suc (length rd.above) ≡ w.lines + 1 = omega (arith, rd.standing.lines) in
+      let number : suc (length rd.above) ≡ w.noted.lines + 1 = omega (arith, rd.standing.lines) in
       sym rd.verdict
-      ∙ first_here (line_checks limits rd.above line) (lines_checks limits (record_of line ∷ rd.above) rest) n (w.lines + 1)
+      ∙ first_here (line_checks limits rd.above line) (lines_checks limits (record_of line ∷ rd.above) rest) n (w.noted.lines + 1)
       (line_refused limits small_limits rd.above line (above_of w kilos l) held n (sym given_is ∙ e) some
       ∙ ap (refused n) number)
 

@@ -23,7 +23,8 @@ use Rattle.entries.specs.Entries.{entry}
 use Rattle.entries.specs.Read.{record_read, LineKeeps}
 use Rattle.goods.specs.Settling.{SIZE, pairs}
 use Rattle.attribution.specs.Reckoning.{kilos_between}
-use Rattle.works.specs.Works.{works_of, works_at_start, count_after, outputs_after, taken_after, kilos_after, works_after, above_of, read_number}
+use Rattle.works.specs.Works.{works_at_start, noted_after, kilos_after, works_after, above_of, read_number}
+use Rattle.works.specs.declared.Noted.{Noted}
 use Rattle.works.specs.declared.Works.{Works}
 use Rattle.gathering.specs.Gathered.{Gathered, NoKilos, records_above}
 use Rattle.gathering.proofs.Standing.{Says}
@@ -69,13 +70,13 @@ module _ (sheet : List ℕ) (at : ℕ) (w : Works) (kilos : List ℕ) (rd : Read
   accepted_at z = accepted_here (lines_of sheet) rest line w kilos here l says (sym number_is ∙ z)
 
   pub refused_at_lem : (n : ℕ) → n ≡ read_number limits l (length sheet) (above_of w kilos l) → (n ≡ 0 → ⊥)
-      → first_of (lines_checks limits [] (lines_of sheet)) ≡ refused n (w.lines + 1)
+      → first_of (lines_checks limits [] (lines_of sheet)) ≡ refused n (w.noted.lines + 1)
   refused_at_lem n e some = refused_here (lines_of sheet) rest line w kilos here l says n (sym number_is ∙ sym e) some
 
   -- the kilograms that stand there are those of the lines above
-  pub kilos_at : (i j : ℕ) → j < SIZE → pairs kilos i j ≡ kilos_between (records_above sheet (w.lines + 1)) i j
+  pub kilos_at : (i j : ℕ) → j < SIZE → pairs kilos i j ≡ kilos_between (records_above sheet (w.noted.lines + 1)) i j
   kilos_at i j h =
-      let n : length here.above ≡ w.lines + 1 - 1 = omega (arith, here.standing.lines) in
+      let n : length here.above ≡ w.noted.lines + 1 - 1 = omega (arith, here.standing.lines) in
       here.standing.goods.kilos_at i j h ∙ kilos_first here i j ∙ ap (λ (k : ℕ). kilos_between (map record_of (take k (lines_of sheet))) i j) n
 
   module _ (ok : first_of (line_checks limits here.above (line_at sheet at)) ≡ accepted) where
@@ -91,25 +92,6 @@ module _ (sheet : List ℕ) (at : ℕ) (w : Works) (kilos : List ℕ) (rd : Read
     next_at =
         let next : l.end + 1 ≡ suc (at + line_length (drop at sheet)) = omega (arith, read.end) in
         record { inside = omega (arith, end_at); left = rw next (reading_next (lines_of sheet) rest line w kilos here l says ok) }
-
-    -- the state that the code makes of it, part by part
-    pub made_at : {count : ℕ} {outputs taken pairs indirect direct bought : List ℕ} {balances : List ℤ} {entered : ℤ} {e : Entry}
-        → e ≡ entry (record_read l) → count ≡ count_after w.count l → outputs ≡ outputs_after w.outputs.0 l
-        → taken ≡ taken_after w.taken.0 l → pairs ≡ kilos_after kilos l
-        → balances ≡ charged_and_credited w.ledger.balances.0 e.charged e.charge.0 e.credited e.credit.0
-        → indirect ≡ added w.ledger.indirect.0 e.user e.electricity.0 → direct ≡ added w.ledger.bought_direct.0 e.buyer e.direct.0
-        → bought ≡ added w.ledger.bought_indirect.0 e.buyer e.indirect.0
-        → entered ≡ w.ledger.totals.entered.0 +ℤ pos e.entering.0 -ℤ pos e.leaving.0
-        → ReadingAt sheet (l.end + 1) (works_of (w.lines + 1) count outputs taken (record {
-          balances = record { 0 = balances };
-          indirect = record { 0 = indirect };
-          bought_direct = record { 0 = direct };
-          bought_indirect = record { 0 = bought };
-          totals = record { entered = record { 0 = entered }; uncredited = record { 0 = w.ledger.totals.uncredited.0 + e.uncredited.0 } };
-        })) pairs
-    unfolding booked
-    made_at weighed counted outputs taken pairs balances indirect direct bought entered =
-        rw (counted, outputs, taken, pairs, balances, indirect, direct, bought, entered, weighed) next_at
 
 -- nothing is left
 module _ (sheet : List ℕ) (at : ℕ) (w : Works) (kilos : List ℕ) (rd : ReadingAt sheet at w kilos) (done : length sheet ≤ at) where

@@ -10,7 +10,8 @@ use lib.Dec.{eqb}
 use lib.ListN.{length}
 use Rattle.decimal.proofs.Bools.{or_either}
 use Rattle.quantity.specs.Limits.{limits}
-use Rattle.sheet.specs.Kinds.{Process, is}
+use Rattle.sheet.specs.Kinds.{is}
+use Rattle.sheet.specs.declared.Kind.TheVariants.{Process}
 use Rattle.lines.specs.Lines.{lines_of}
 use Rattle.lines.specs.Records.{Record, records_of}
 use Rattle.ledger.proofs.Bounds.{within_more}
@@ -39,13 +40,13 @@ module _ (sheet : List ℕ) (w : Works) (kilos : List ℕ) (rd : Reading (lines_
   ledger : HeldLedger (records_of sheet) w.ledger
   ledger = ledger_same rd.above (records_of sheet) same w.ledger rd.standing.ledger
 
-  goods : HeldGoods (records_of sheet) w.count w.outputs.0 w.taken.0 kilos
-  goods = goods_same rd.above (records_of sheet) same w.count w.outputs.0 w.taken.0 kilos rd.standing.goods
+  goods : HeldGoods (records_of sheet) w.noted.count w.noted.outputs.0 w.noted.taken.0 kilos
+  goods = goods_same rd.above (records_of sheet) same w.noted.count w.noted.outputs.0 w.noted.taken.0 kilos rd.standing.goods
 
-  made : (i : ℕ) → 1 ≤ i → i ≤ w.count → 1 ≤ sum_of (output_in i) (records_of sheet)
+  made : (i : ℕ) → 1 ≤ i → i ≤ w.noted.count → 1 ≤ sum_of (output_in i) (records_of sheet)
   made i one last =
       let s : sum_of (output_in i) rd.above ≡ sum_of (output_in i) (records_of sheet) = same (output_in i) in
-      go (or_either (eqb i 0) (any_of (λ r. is Process r && eqb i (process r)) rd.above) (rd.standing.held.named i ∙ le-leb i w.count last)) s
+      go (or_either (eqb i 0) (any_of (λ r. is Process r && eqb i (process r)) rd.above) (rd.standing.held.named i ∙ le-leb i w.noted.count last)) s
     where
       go : (eqb i 0 ≡ true) ⊎ (any_of (λ r. is Process r && eqb i (process r)) rd.above ≡ true)
           → sum_of (output_in i) rd.above ≡ sum_of (output_in i) (records_of sheet) → 1 ≤ sum_of (output_in i) (records_of sheet)

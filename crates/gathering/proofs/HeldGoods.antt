@@ -11,7 +11,8 @@ use borrow.Author.Tests.{eqb-true, eqb-false}
 use lib.Dec.{eqb}
 use lib.ListN.{length, get_or, replicate, length-set, length-replicate}
 use Rattle.lines.specs.Records.{Record, number_at}
-use Rattle.sheet.specs.Kinds.{Process, OwnGood, is}
+use Rattle.sheet.specs.Kinds.{is}
+use Rattle.sheet.specs.declared.Kind.TheVariants.{Process, OwnGood}
 use Rattle.sheet.specs.Refusals.{sum_of, process, from, to, output_in, taken_in}
 use Rattle.goods.specs.Sums.{only_at}
 use Rattle.goods.proofs.Sums.{at_same, at_other, at_none, at_le}

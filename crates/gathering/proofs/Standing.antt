@@ -20,7 +20,9 @@ use Rattle.goods.proofs.Sums.{at_same, at_other, at_none}
 use Rattle.ledger.specs.Ledger.{Room, booked}
 use Rattle.ledger.proofs.Bounds.{within_more}
 use Rattle.quantity.specs.Limits.{limits}
-use Rattle.sheet.specs.Kinds.{Kind, Process, OwnGood, Unknown, letter, is, rules}
+use Rattle.sheet.specs.Kinds.{letter, is, rules}
+use Rattle.sheet.specs.declared.Kind.{Kind}
+use Rattle.sheet.specs.declared.Kind.TheVariants.{Process, OwnGood, Unknown}
 use Rattle.sheet.specs.Refusals.{any_of, sum_of, process, from, to, output_in}
 use Rattle.sheet.specs.Verdict.{accepted, first_of, line_checks}
 use Rattle.sheet.proofs.First.{accepted_passes}
@@ -36,7 +38,7 @@ use Rattle.attribution.proofs.EveryKind.{small_entry}
 use Rattle.attribution.specs.Reckoning.{kilos_of, kilos_between}
 use Rattle.works.specs.declared.Works.{Works}
 use Rattle.works.specs.Works.{above_of, works_after, kilos_after, RoomForLine}
-use Rattle.works.proofs.Noted.{after_process, after_good, after_other}
+use Rattle.works.proofs.AfterLine.{after_process, after_good, after_other}
 use Rattle.gathering.proofs.HeldLedger.{HeldLedger, held_booked}
 use Rattle.gathering.proofs.HeldGoods.{HeldGoods, held_process, held_good, held_other}
 
@@ -49,18 +51,19 @@ abbrev pub Made : List Record → Type 0
 Made above = (p : ℕ) → any_of (λ r. is Process r && eqb p (process r)) above ≡ true → 1 ≤ sum_of (output_in p) above
 
 pub record Standing (above : List Record) (w : Works) (kilos : List ℕ) : Type 0 where
-  pub lines : w.lines ≡ length above
+  pub lines : w.noted.lines ≡ length above
   pub few : length above ≤ limits.lines
-  pub held : Held limits above w.count
-  pub goods : HeldGoods above w.count w.outputs.0 w.taken.0 kilos
+  pub held : Held limits above w.noted.count
+  pub goods : HeldGoods above w.noted.count w.noted.outputs.0 w.noted.taken.0 kilos
   pub made : Made above
   pub once : Once above
   pub ledger : HeldLedger above w.ledger
 
 -- ---- there is room for one line more
 
-pub room_for_line : (above : List Record) (w : Works) (kilos : List ℕ) → Standing above w kilos → RoomForLine w kilos
+pub room_for_line : (above : List Record) (w : Works) (kilos : List ℕ) → Standing above w kilos → RoomForLine w.noted kilos
 room_for_line above w kilos s = record {
+  lines = omega (arith, s.lines, s.few);
   count = omega (arith, s.held.few, s.few);
   outputs = λ i. omega (arith, s.goods.outputs_small i, s.few);
   taken = λ i. omega (arith, s.goods.taken_small i, s.few);
@@ -71,8 +74,8 @@ pub room : (above : List Record) (w : Works) (kilos : List ℕ) → Standing abo
 room above w kilos s = within_more (omega (arith, s.few)) s.ledger.within
 
 -- what is held of an own good's processes
-good_held : (above : List Record) (w : Works) (kilos : List ℕ) → Standing above w kilos → (f t : ℕ) → t ≤ w.count
-    → GoodHeld above f t (get_or w.outputs.0 f 0) (get_or w.taken.0 f 0) (get_or kilos (f * SIZE + t) 0)
+good_held : (above : List Record) (w : Works) (kilos : List ℕ) → Standing above w kilos → (f t : ℕ) → t ≤ w.noted.count
+    → GoodHeld above f t (get_or w.noted.outputs.0 f 0) (get_or w.noted.taken.0 f 0) (get_or kilos (f * SIZE + t) 0)
 good_held above w kilos s f t c =
     let place : t < SIZE = omega (arith, s.held.most) in
     record {
@@ -84,8 +87,8 @@ good_held above w kilos s f t c =
 -- ---- above the first line
 
 -- nothing above
-pub standing_start : (w : Works) (kilos : List ℕ) → w.lines ≡ 0 → w.count ≡ 0
-    → HeldGoods [] w.count w.outputs.0 w.taken.0 kilos → HeldLedger [] w.ledger → Standing [] w kilos
+pub standing_start : (w : Works) (kilos : List ℕ) → w.noted.lines ≡ 0 → w.noted.count ≡ 0
+    → HeldGoods [] w.noted.count w.noted.outputs.0 w.noted.taken.0 kilos → HeldLedger [] w.ledger → Standing [] w kilos
 unfolding kilos_between sum_of any_of
 standing_start w kilos l c g h = record {
   lines = l;
@@ -201,12 +204,12 @@ module _ (line : Line) (l : LineRead) (says : Says l (record_of line)) (above : 
     -- a line that is no P line and no G line
     standing_other : is Process r ≡ false → is OwnGood r ≡ false → Standing (r ∷ above) (works_after w l) (kilos_after kilos l)
     standing_other p g =
-        let a = after_other w kilos l (is_letter_lem Process refl false p) (is_letter_lem OwnGood refl false g) in
+        let a = after_other w.noted kilos l (is_letter_lem Process refl false p) (is_letter_lem OwnGood refl false g) in
         rw (a.0, a.1) record {
           lines = omega (arith, s.lines);
           few = few_next;
-          held = rw p at (held_next limits above line w.count s.held ok);
-          goods = held_other above w.count w.outputs.0 w.taken.0 kilos s.goods r p g;
+          held = rw p at (held_next limits above line w.noted.count s.held ok);
+          goods = held_other above w.noted.count w.noted.outputs.0 w.noted.taken.0 kilos s.goods r p g;
           made = made_next above r s.made (λ e. absurd (never (sym p ∙ e)));
           once = once_next above r s.once (λ e. absurd (never (sym g ∙ e)));
           ledger = booked_next;
@@ -218,14 +221,14 @@ module _ (line : Line) (l : LineRead) (says : Says l (record_of line)) (above : 
         let k = kind_is Process r p in
         let n = in_rules limits r passed.ranges Process k in
         let v = are_words l sized line_keeps Process (rw read_record k) in
-        let a = after_process w kilos l (eqb-true l.letter (letter Process) (is_letter_lem Process refl true p)) in
+        let a = after_process w.noted kilos l (eqb-true l.letter (letter Process) (is_letter_lem Process refl true p)) in
         let at0 : process r ≡ get_or l.words 0 0 = rw read_record at (v.0 refl) in
         let at1 : number_at r 1 ≡ get_or l.words 1 0 = rw read_record at (v.1.0 refl) in
         rw (a.0, a.1, ← at0, ← at1) record {
           lines = omega (arith, s.lines);
           few = few_next;
-          held = rw add-one (rw p at (held_next limits above line w.count s.held ok));
-          goods = held_process above w.count w.outputs.0 w.taken.0 kilos s.goods r p g (omega (arith, (n.0 refl).high)) (n.1.0 refl).high;
+          held = rw add-one (rw p at (held_next limits above line w.noted.count s.held ok));
+          goods = held_process above w.noted.count w.noted.outputs.0 w.noted.taken.0 kilos s.goods r p g (omega (arith, (n.0 refl).high)) (n.1.0 refl).high;
           made = made_next above r s.made (λ z. (n.1.0 refl).low);
           once = once_next above r s.once (λ z. absurd (never (sym g ∙ z)));
           ledger = booked_next;
@@ -237,15 +240,15 @@ module _ (line : Line) (l : LineRead) (says : Says l (record_of line)) (above : 
         let k = kind_is OwnGood r g in
         let n = in_rules limits r passed.ranges OwnGood k in
         let v = are_words l sized line_keeps OwnGood (rw read_record k) in
-        let a = after_good w kilos l (eqb-true l.letter (letter OwnGood) (is_letter_lem OwnGood refl true g)) in
+        let a = after_good w.noted kilos l (eqb-true l.letter (letter OwnGood) (is_letter_lem OwnGood refl true g)) in
         let at0 : from r ≡ get_or l.words 0 0 = rw read_record at (v.0 refl) in
         let at1 : to r ≡ get_or l.words 1 0 = rw read_record at (v.1.0 refl) in
         let at2 : number_at r 2 ≡ get_or l.words 2 0 = rw read_record at (v.1.1.0 refl) in
         rw (a.0, a.1, ← at0, ← at1, ← at2) record {
           lines = omega (arith, s.lines);
           few = few_next;
-          held = rw p at (held_next limits above line w.count s.held ok);
-          goods = held_good above w.count w.outputs.0 w.taken.0 kilos s.goods r p g
+          held = rw p at (held_next limits above line w.noted.count s.held ok);
+          goods = held_good above w.noted.count w.noted.outputs.0 w.noted.taken.0 kilos s.goods r p g
               (omega (arith, (n.0 refl).high)) (omega (arith, (n.1.0 refl).high)) (n.1.1.0 refl).high;
           made = made_next above r s.made (λ z. absurd (never (sym p ∙ z)));
           once = once_next above r s.once (λ z. (n.1.1.0 refl).low);

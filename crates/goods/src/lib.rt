@@ -9,7 +9,7 @@ pub const SIZE: usize = PROCESSES + 1;
 // Kilograms from process i to process j stand at i * SIZE + j.
 pub const PAIRS: usize = SIZE * SIZE;
 
-// A figure of each process, at its number, by its unit.
+// A figure of each process, at its number, by its unit. A generic struct can hold no array of a type parameter, so each unit has a struct.
 #[derive(Clone, Copy)]
 pub struct GramsByProcess(pub [u64; SIZE]);
 
@@ -19,5 +19,12 @@ pub struct SignedGramsByProcess(pub [i64; SIZE]);
 #[derive(Clone, Copy)]
 pub struct KilosByProcess(pub [u64; SIZE]);
 
-// The kilograms of each pair of processes. No other array has so many places.
+// The kilograms of each pair of processes. No other array has so many places. One list, as the definitions have it: two indices would be no plainer.
 pub type KilosByPair = [u64; PAIRS];
+
+// Direct and indirect grams of each process: their own, their pools, or what is left of these.
+#[derive(Clone, Copy)]
+pub struct BothGramsByProcess {
+    pub direct: GramsByProcess,
+    pub indirect: GramsByProcess,
+}

@@ -3,23 +3,16 @@
 
 pub mod weighing;
 
-ghost use Rattle.std.specs.Prelude.{◌≡◌, ◌+◌, ◌*◌, ◌≤◌};
+ghost use Rattle.std.specs.Prelude.{◌≡◌, ◌+◌, ◌*◌, ◌/◌, ◌≤◌};
 ghost use Rattle.quantity.specs.Rounding.{round};
 
-// "Source streams", round(u/v) with u = x × y, v = 1,000.
-pub fn round_thousandths(x: u64, y: u64) -> u64
-    requires { x * y ≤ 10000000000000000000 }
-    ensures value { result ≡ round (x * y) 1000 }
-    ensures bounded { result * 1000 ≤ x * y + 500 }
+// "Source streams", round(u/v) with u = x × y, v = 1,000 or 10,000.
+#[tactic(auto, unfolding(quantity::specs::Rounding::round))]
+pub fn rounded<const DIVISOR: u64>(x: u64, y: u64) -> u64
+    requires product { x * y ≤ 10000000000000000000 }
+    requires divisor { (1 ≤ DIVISOR) × (DIVISOR ≤ 10000) }
+    ensures value { result ≡ round (x * y) DIVISOR }
+    ensures bounded { result * DIVISOR ≤ x * y + DIVISOR / 2 }
 {
-    (x * y + 500) / 1000
-}
-
-// "Source streams", round(u/v) with u = x × y, v = 10,000.
-pub fn round_ten_thousandths(x: u64, y: u64) -> u64
-    requires { x * y ≤ 10000000000000000000 }
-    ensures value { result ≡ round (x * y) 10000 }
-    ensures bounded { result * 10000 ≤ x * y + 5000 }
-{
-    (x * y + 5000) / 10000
+    (x * y + DIVISOR / 2) / DIVISOR
 }

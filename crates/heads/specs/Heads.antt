@@ -1,8 +1,9 @@
 -- For the code only: a line's head. Laws join it to Records.
-use Rattle.std.specs.Prelude.{◌≡◌, Bool, false, cond, ◌&&◌, List, ℕ, ◌+◌, ◌-◌, ◌≤◌, eqb, ltb, length, get_or}
+use Rattle.std.specs.Prelude.{◌≡◌, Bool, false, cond, ◌&&◌, Some, None, List, ℕ, ◌+◌, ◌-◌, ◌≤◌, eqb, ltb, length, get_or}
 use Rattle.lines.specs.Lines.{LF, COMMA}
 use Rattle.lines.specs.Records.{record_of}
 use Rattle.lines.specs.Words.{line_at}
+use Rattle.fields.specs.declared.Stop.TheVariants.{Comma}
 use Rattle.heads.specs.Left.{field_end}
 use Rattle.heads.specs.declared.Head.{Head}
 
@@ -21,4 +22,4 @@ letter_first sheet start =
 
 pub record HeadAt (sheet : List ℕ) (start : ℕ) (h : Head) : Type 0 where
   pub is : HeadIs sheet start h.letter h.end
-  pub more : h.more ≡ letter_first sheet start
+  pub stop : h.stop ≡ cond (letter_first sheet start) (Some Comma) None

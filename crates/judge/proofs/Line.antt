@@ -14,7 +14,8 @@ use Rattle.lines.specs.Lines.{Line}
 use Rattle.lines.specs.Records.{Field, Record, record_of, field, number_at}
 use Rattle.lines.specs.Words.{CAP}
 use Rattle.quantity.specs.Limits.{Limits}
-use Rattle.sheet.specs.Kinds.{Process, SourceStream, OwnGood, kind, is, Rule, rules, sheet_table, named_fields, ends_of}
+use Rattle.sheet.specs.Kinds.{kind, is, Rule, rules, sheet_table, named_fields, ends_of}
+use Rattle.sheet.specs.declared.Kind.TheVariants.{Process, SourceStream, OwnGood}
 use Rattle.sheet.specs.Refusals.{any_of, sum_of, from, to, output_in, taken_in, has_process, too_many_lines, unknown_kind}
 use Rattle.sheet.specs.Refusals.{process_not_next, missing_process, ends_not_allowed, no_standard_value, second_of_pair, output_exceeded}
 use Rattle.sheet.specs.Verdict.{Verdict, Check, check, accepted, refused, first_of, number_of, field_checks, shape_checks, order_checks, line_checks, All}

@@ -1,31 +1,32 @@
 // Document 01, "Sheets sent back": a line judged by its letter, under the lines above it.
-#![tactic(auto)]
+#![tactic(auto, unfolding(checks::specs::Judged::fields_number))]
 
 ghost use Rattle.std.specs.Prelude.{◌≡◌};
 ghost use Rattle.quantity.specs.Limits.{limits};
 ghost use Rattle.sheet.specs.Kinds.{kind_of};
-ghost use Rattle.checks.specs.Numbers.{refusal_number};
+ghost use Rattle.checks.specs.Numbers.{number_judged};
 ghost use Rattle.checks.specs.Judged.{kind_number};
 
 use checks::above::Above;
 use checks::refusals::Refusal;
 use kinds::{bought_precursor, own_good, process};
-use lines::WORDS;
+use lines::LineRead;
+use sheet::Kind;
 use source_streams::source_stream;
 use transfers::{electricity, measurable_heat, waste_gas};
 
-// Rows 4 to 13 of a line of this letter, of so many fields after its first and of these words.
-pub fn line_refusal(above: Above, letter: u8, count: usize, words: &[u64; WORDS]) -> Refusal
-    ensures { refusal_number result ≡ kind_number limits (kind_of letter) count words.now above }
+// Rows 4 to 13 of a line by its letter, its count of fields and its words.
+pub fn line_refusal(l: &LineRead, above: Above) -> Result<(), Refusal>
+    ensures { number_judged result ≡ kind_number limits (kind_of l.now.letter) l.now.count l.now.words above }
 {
-    match letter {
-        b'P' => process(count, words, above),
-        b'S' => source_stream(count, words, above),
-        b'H' => measurable_heat(count, words, above),
-        b'W' => waste_gas(count, words, above),
-        b'E' => electricity(count, words, above),
-        b'B' => bought_precursor(count, words, above),
-        b'G' => own_good(count, words, above),
-        _ => Refusal::UnknownKind,
+    match Kind::from(l.letter) {
+        Kind::Process => process(l, above),
+        Kind::SourceStream => source_stream(l, above),
+        Kind::MeasurableHeat => measurable_heat(l, above),
+        Kind::WasteGas => waste_gas(l, above),
+        Kind::Electricity => electricity(l, above),
+        Kind::BoughtPrecursor => bought_precursor(l, above),
+        Kind::OwnGood => own_good(l, above),
+        Kind::Unknown => Err(Refusal::UnknownKind),
     }
 }

@@ -18,8 +18,9 @@ use Rattle.sheet.specs.Verdict.{accepted, refused, first_of, line_checks, lines_
 use Rattle.ledger.specs.Ledger.{start}
 use Rattle.ledger.specs.declared.Ledger.{Ledger}
 use Rattle.entries.specs.Read.{LineKeeps}
-use Rattle.goods.specs.Settling.{SIZE, PAIRS}
-use Rattle.works.specs.Works.{works_of, above_of, read_number, count_after, outputs_after, taken_after, kilos_after, RoomForLine}
+use Rattle.goods.specs.Settling.{PAIRS}
+use Rattle.works.specs.Works.{above_at, above_of, read_number, noted_after, kilos_after, nothing_noted, RoomForLine}
+use Rattle.works.specs.declared.Noted.{Noted}
 use Rattle.works.specs.declared.Works.{Works}
 use Rattle.places.proofs.NextLine.{lines_done}
 use Rattle.gathering.proofs.AnyOrder.{SameSums, same_length}
@@ -32,20 +33,20 @@ use Rattle.judged.proofs.Given.{there, next_lent, ended_lent}
 
 -- a line's end fits in 64 bits, and so does the place after it
 pub end_fits : (lent : Bool) (bytes list : List ℕ) (lines : ℕ) → lines ≤ limits.lines → (end : ℕ) → Near lent (end + 1) (lines + 1)
-    → end < length (sheet_given lent bytes list) → length bytes < 2 ^ 64 → end + 1 < 2 ^ 64
+    → end < length (sheet_given lent bytes list) → size_given lent bytes < 2 ^ 64 → end + 1 < 2 ^ 64
 end_fits true bytes list lines few end near inside long = let low = near refl in omega arith
 end_fits false bytes list lines few end near inside long = omega arith
 
 -- the lines above are judged and noted, those from a place on are left
-pub record JudgingAt (lent : Bool) (bytes list : List ℕ) (size : ℕ) (kilos outputs taken : List ℕ) (count lines at : ℕ) : Type 0 where
+pub record JudgingAt (lent : Bool) (bytes list : List ℕ) (size : ℕ) (kilos : List ℕ) (noted : Noted) (at : ℕ) : Type 0 where
   pub sized : size ≡ size_given lent bytes
   pub books : Ledger
-  pub reading : ReadingAt (sheet_given lent bytes list) at (works_of lines count outputs taken books) kilos
-  pub spelt : Spelt lent list at lines
-  pub near : Near lent at lines
+  pub reading : ReadingAt (sheet_given lent bytes list) at (record { noted = noted; ledger = books }) kilos
+  pub spelt : Spelt lent list at noted.lines
+  pub near : Near lent at noted.lines
 
 pub judging_start : (lent : Bool) (bytes list : List ℕ) (size : ℕ) → size ≡ size_given lent bytes
-    → JudgingAt lent bytes list size (replicate PAIRS 0) (replicate SIZE 0) (replicate SIZE 0) 0 0 0
+    → JudgingAt lent bytes list size (replicate PAIRS 0) nothing_noted 0
 judging_start lent bytes list size long = record {
   sized = long;
   books = start;
@@ -54,24 +55,27 @@ judging_start lent bytes list size long = record {
   near = λ e. omega arith;
 }
 
-module _ {lent : Bool} {bytes list : List ℕ} {size : ℕ} {kilos outputs taken : List ℕ} {count lines at : ℕ}
-    (j : JudgingAt lent bytes list size kilos outputs taken count lines at) where
+module _ {lent : Bool} {bytes list : List ℕ} {size : ℕ} {kilos : List ℕ} {noted : Noted} {at : ℕ}
+    (j : JudgingAt lent bytes list size kilos noted at) where
   abbrev sheet : List ℕ
   sheet = sheet_given lent bytes list
 
   abbrev works : Works
-  works = works_of lines count outputs taken j.books
+  works = record { noted = noted; ledger = j.books }
 
-  pub few : lines ≤ limits.lines
+  abbrev lines : ℕ
+  lines = noted.lines
+
+  pub few : noted.lines ≤ limits.lines
   few = omega (arith, j.reading.left.standing.lines, j.reading.left.standing.few)
 
-  pub room : RoomForLine (works_of lines count outputs taken j.books) kilos
+  pub room : RoomForLine noted kilos
   room = room_for_line _ _ _ j.reading.left.standing
 
   -- ---- a line is there
 
   module _ (more : at < length (sheet_given lent bytes list)) (l : LineRead) (read : ReadAt (sheet_given lent bytes list) at l)
-      (near : Near lent (l.end + 1) (lines + 1)) where
+      (near : Near lent (l.end + 1) (noted.lines + 1)) where
     -- a line of lent records has its LF, so that any place may stand for the sheet's end
     ended : not (eqb l.end size) ≡ not (eqb l.end (length sheet))
     ended = ap (λ (n : ℕ). not (eqb l.end n)) j.sized ∙ go lent refl j.spelt near more read
@@ -89,11 +93,11 @@ module _ {lent : Bool} {bytes list : List ℕ} {size : ℕ} {kilos outputs taken
     number_is : read_number limits l size (above_of works kilos l) ≡ read_number limits l (length sheet) (above_of works kilos l)
     number_is = rw ended
 
-    pub judged_refused : (n : ℕ) → n ≡ read_number limits l size (above_of (works_of lines count outputs taken j.books) kilos l) → (n ≡ 0 → ⊥)
-        → first_of (lines_checks limits [] (lines_of (sheet_given lent bytes list))) ≡ refused n (lines + 1)
+    pub judged_refused : (n : ℕ) → n ≡ read_number limits l size (above_at noted kilos l) → (n ≡ 0 → ⊥)
+        → first_of (lines_checks limits [] (lines_of (sheet_given lent bytes list))) ≡ refused n (noted.lines + 1)
     judged_refused n e some = refused_at_lem sheet at works kilos j.reading more l read n (e ∙ number_is) some
 
-    module _ (zero : read_number limits l size (above_of (works_of lines count outputs taken j.books) kilos l) ≡ 0) where
+    module _ (zero : read_number limits l size (above_at noted kilos l) ≡ 0) where
       ok : first_of (line_checks limits (here sheet at works kilos j.reading more l read).above (line_at sheet at)) ≡ accepted
       ok = accepted_at sheet at works kilos j.reading more l read (sym number_is ∙ zero)
 
@@ -113,11 +117,10 @@ module _ {lent : Bool} {bytes list : List ℕ} {size : ℕ} {kilos outputs taken
           go false e spelt more read = absurd (never e)
 
       -- the next place
-      pub judging_next : {count' : ℕ} {outputs' taken' kilos' : List ℕ} → count' ≡ count_after count l → outputs' ≡ outputs_after outputs l
-          → taken' ≡ taken_after taken l → kilos' ≡ kilos_after kilos l
-          → JudgingAt lent bytes list size kilos' outputs' taken' count' (lines + 1) (l.end + 1)
-      judging_next counted outputs-are taken-are kilos-are =
-          rw (counted, outputs-are, taken-are, kilos-are) (record {
+      pub judging_next : {noted' : Noted} {kilos' : List ℕ} → noted' ≡ noted_after noted l → kilos' ≡ kilos_after kilos l
+          → JudgingAt lent bytes list size kilos' noted' (l.end + 1)
+      judging_next noted-are kilos-are =
+          rw (noted-are, kilos-are) (record {
             sized = j.sized;
             books = _;
             reading = next_at sheet at works kilos j.reading more l read ok;
@@ -138,7 +141,7 @@ module _ {lent : Bool} {bytes list : List ℕ} {size : ℕ} {kilos outputs taken
     unfolding sum_of records_of
     same f = let s = none.sums f in omega arith
 
-    pub judged_lines : lines ≡ length (records_of (sheet_given lent bytes list))
+    pub judged_lines : noted.lines ≡ length (records_of (sheet_given lent bytes list))
     judged_lines = none.standing.lines ∙ same_length none.above (records_of sheet) same
 
     pub judged_length : at ≡ length (sheet_given lent bytes list)

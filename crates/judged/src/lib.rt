@@ -6,138 +6,125 @@ ghost use Rattle.std.specs.Prelude.{◌≡◌, ◌+◌, ◌≤◌, ◌<◌, ltb,
 ghost use Rattle.quantity.specs.Limits.{limits};
 ghost use Rattle.lines.specs.Words.{ReadAt};
 ghost use Rattle.lent.specs.Lent.{sheet_lent};
-ghost use Rattle.judged.specs.Judged.{sheet_given, size_given, Spelt, Near, LinesJudged, SheetJudged, refused_of};
+ghost use Rattle.judged.specs.Judged.{is_lent, bytes_of, list_of, sheet_of, size_given, Spelt, Near, LinesJudged, SheetJudged};
 
-use checks::refusals::{Refusal, refusal_number};
-use goods::{KilosByPair, PAIRS, SIZE};
+use checks::refusals::{Refusal, Refused};
+use goods::{KilosByPair, PAIRS};
 use lent::{RECORD, lent_line};
 use lines::LineRead;
-use noting::{note_own_good, note_process};
+use noting::note_line;
 use quantity::limits::BYTES;
 use record_lines::sheet_length;
 use records::read_line;
-use works::judging::line_refusal;
+use works::Noted;
 
-// The first refusal by rows 1 to 14 and its line, 0 where there is none; of an accepted sheet how many lines and how many bytes it has, 0 of a refused
-// one.
+// How many lines and how many bytes an accepted sheet has.
 #[derive(Clone, Copy)]
 pub struct Judged {
-    pub refusal: Refusal,
-    pub line: usize,
     pub lines: usize,
     pub length: usize,
 }
 
-fn refused(refusal: Refusal, line: usize) -> Judged
-    ensures { result ≡ refused_of refusal line }
-{
-    Judged {
-        refusal,
-        line,
-        lines: 0,
-        length: 0,
-    }
+// A sheet as it is given: its bytes, or the records that spell it.
+#[derive(Clone, Copy)]
+enum SheetGiven<'a> {
+    Bytes(&'a [u8]),
+    Lent(&'a [u64]),
 }
 
 // Whether a line starts at a place of the sheet, behind so many lines.
-fn more(s: &[u8], records: &[u64], lent: bool, at: usize, lines: usize) -> bool
-    requires spelt { Spelt lent records.now at lines }
+fn more(sheet: SheetGiven, at: usize, lines: usize) -> bool
+    requires spelt { Spelt (is_lent sheet) (list_of sheet) at lines }
     requires few { lines ≤ limits.lines }
-    ensures { result ≡ ltb at (length (sheet_given lent s.now records.now)) }
+    ensures { result ≡ ltb at (length (sheet_of sheet.entry)) }
 {
-    if lent {
-        return lines * RECORD < records.len();
+    match sheet {
+        SheetGiven::Bytes(s) => at < s.len(),
+        SheetGiven::Lent(records) => lines * RECORD < records.len(),
     }
-    at < s.len()
 }
 
 // The place of the line that would lack its LF: no line of lent records does.
-fn size_of(s: &[u8], lent: bool) -> usize
-    ensures { result ≡ size_given lent s.now }
+fn size_of(sheet: SheetGiven) -> usize
+    ensures { result ≡ size_given (is_lent sheet.entry) (bytes_of sheet.entry) }
 {
-    if lent {
-        return 18446744073709551615;
+    match sheet {
+        SheetGiven::Bytes(s) => s.len(),
+        SheetGiven::Lent(_) => usize::MAX,
     }
-    s.len()
 }
 
 // The line that starts at a place of the sheet, behind so many lines: read from its bytes, or taken from the record that spells it.
-fn line_at(s: &[u8], records: &[u64], lent: bool, at: usize, lines: usize) -> LineRead
-    requires spelt { Spelt lent records.now at lines }
-    requires few { (lines ≤ limits.lines) × Near lent at lines }
-    requires inside { at < length (sheet_given lent s.now records.now) }
-    ensures read_at { ReadAt (sheet_given lent s.now records.now) at result }
-    ensures bounded { Near lent (result.end + 1) (lines + 1) }
+fn line_at(sheet: SheetGiven, at: usize, lines: usize) -> LineRead
+    requires spelt { Spelt (is_lent sheet) (list_of sheet) at lines }
+    requires few { (lines ≤ limits.lines) × Near (is_lent sheet) at lines }
+    requires inside { at < length (sheet_of sheet) }
+    ensures read_at { ReadAt (sheet_of sheet.entry) at result }
+    ensures bounded { Near (is_lent sheet.entry) (result.end + 1) (lines + 1) }
 {
-    if lent {
-        return lent_line(records, lines * RECORD, at);
+    match sheet {
+        SheetGiven::Bytes(s) => read_line(s, at),
+        SheetGiven::Lent(records) => lent_line(records, lines * RECORD, at),
     }
-    read_line(s, at)
 }
 
-// Rows 2 to 13 over all lines of a sheet, which is its bytes or, where `lent`, what the records spell.
-fn judge_lines(s: &[u8], records: &[u64], lent: bool) -> Judged
-    ensures { LinesJudged (sheet_given lent s.now records.now) result }
+// Rows 2 to 13 over all lines of a sheet.
+fn judge_lines(sheet: SheetGiven) -> Result<Judged, Refused>
+    ensures { LinesJudged (sheet_of sheet.entry) result }
 {
-    let size = size_of(s, lent);
+    let size = size_of(sheet);
     let mut kilos: KilosByPair = [0; PAIRS];
-    let mut outputs = [0u64; SIZE];
-    let mut taken = [0u64; SIZE];
-    let mut count: usize = 0;
-    let mut lines: usize = 0;
+    let mut noted = Noted::none();
     let mut at: usize = 0;
-    while more(s, records, lent, at, lines) {
-        let l = line_at(s, records, lent, at, lines);
-        let refusal = line_refusal(lines, count, &outputs, &taken, &kilos, l, size);
-        if refusal_number(refusal) != 0 {
-            return refused(refusal, lines + 1);
+    // where a line ends is known when it is read, so that nothing can be counted before
+    while more(sheet, at, noted.lines) {
+        let l = line_at(sheet, at, noted.lines);
+        if let Err(refusal) = noted.judge(&kilos, &l, size) {
+            let line = noted.lines + 1;
+            return Err(Refused { refusal, line });
         }
         at = l.end + 1;
-        count = note_process(&mut outputs, count, l);
-        note_own_good(&mut taken, &mut kilos, l);
-        lines += 1;
+        note_line(&mut noted, &mut kilos, &l);
     }
-    Judged {
-        refusal: Refusal::Accepted,
-        line: 0,
-        lines,
+    Ok(Judged {
+        lines: noted.lines,
         length: at,
-    }
+    })
 }
 
 // The verdict of a sheet.
-pub fn judge_sheet(s: &[u8]) -> Judged
+pub fn judge_sheet(s: &[u8]) -> Result<Judged, Refused>
     ensures { SheetJudged s.now result }
 {
     if BYTES < s.len() {
-        return refused(Refusal::TooManyBytes, 0);
+        return Err(Refused::from(Refusal::TooManyBytes));
     }
-    if s.len() == 0 {
-        return refused(Refusal::EmptySheet, 0);
+    if s.is_empty() {
+        return Err(Refused::from(Refusal::EmptySheet));
     }
-    let no_records = [0u64; 0];
-    judge_lines(s, &no_records, false)
+    judge_lines(SheetGiven::Bytes(s))
 }
 
 // The verdict of the sheet that lent records spell. Row 1 comes first in the verdict and is asked last: the lines of an accepted sheet are measured as
 // they are judged, and only a refused one is measured by itself.
-pub fn judge_records(records: &[u64]) -> Judged
+pub fn judge_records(records: &[u64]) -> Result<Judged, Refused>
     ensures { SheetJudged (sheet_lent records.now) result }
 {
-    if records.len() == 0 {
-        return refused(Refusal::EmptySheet, 0);
+    if records.is_empty() {
+        return Err(Refused::from(Refusal::EmptySheet));
     }
-    let no_bytes = [0u8; 0];
-    let judged = judge_lines(&no_bytes, records, true);
-    let refusal = judged.refusal;
-    if refusal_number(refusal) == 0 {
-        if BYTES < judged.length {
-            return refused(Refusal::TooManyBytes, 0);
+    match judge_lines(SheetGiven::Lent(records)) {
+        Ok(sheet) => {
+            if BYTES < sheet.length {
+                return Err(Refused::from(Refusal::TooManyBytes));
+            }
+            Ok(sheet)
         }
-        return judged;
+        Err(refused) => {
+            if BYTES < sheet_length(records) {
+                return Err(Refused::from(Refusal::TooManyBytes));
+            }
+            Err(refused)
+        }
     }
-    if BYTES < sheet_length(records) {
-        return refused(Refusal::TooManyBytes, 0);
-    }
-    judged
 }

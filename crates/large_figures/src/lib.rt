@@ -5,27 +5,19 @@ ghost use Rattle.std.specs.Prelude.{◌≡◌, ◌<◌};
 ghost use Rattle.goods.specs.ByProcess.{SIZE, figures};
 ghost use Rattle.large_figures.specs.Large.{any_large, large_rows, large_totals, large};
 
-use goods::SIZE;
+use goods::GramsByProcess;
 use quantity::limits::WHOLE_GRAMS;
 use quantity::{Grams, SignedGrams};
 use reckoning::{Closing, Reckoning};
 
-// Row 15: as whole-gram figures stay below 2^63, the least i64 is too large.
-const LEAST: i64 = -((WHOLE_GRAMS - 1) as i64) - 1;
-
 // Of processes 1 .. count.
-fn too_large(a: &[u64; SIZE], count: usize) -> bool
+fn too_large(a: &GramsByProcess, count: usize) -> bool
     requires { count < SIZE }
-    ensures { result ≡ any_large count (figures a.now) }
+    ensures { result ≡ any_large count (figures a.now.0) }
 {
-    let mut large = false;
-    let mut done: usize = 0;
-    while done < count {
-        let k = done + 1;
-        large = large | (a[k] >= WHOLE_GRAMS);
-        done = k;
-    }
-    large
+    a.0[1..=count]
+        .iter()
+        .fold(false, |large, grams| large | (*grams >= WHOLE_GRAMS))
 }
 
 // Row 15 over the figures of processes.
@@ -33,20 +25,20 @@ fn large_rows(f: Closing, count: usize) -> bool
     requires { count < SIZE }
     ensures { result ≡ large_rows f count }
 {
-    let attributed = too_large(&f.direct.0, count)
-        | too_large(&f.indirect.0, count)
-        | too_large(&f.raised.0, count);
-    let pooled = too_large(&f.direct_pools.0, count) | too_large(&f.indirect_pools.0, count);
-    let left = too_large(&f.direct_lefts.0, count) | too_large(&f.indirect_lefts.0, count);
+    let attributed = too_large(&f.direct, count)
+        | too_large(&f.indirect, count)
+        | too_large(&f.raised, count);
+    let pooled = too_large(&f.direct_pools, count) | too_large(&f.indirect_pools, count);
+    let left = too_large(&f.direct_lefts, count) | too_large(&f.indirect_lefts, count);
     attributed | pooled | left
 }
 
-// Row 15 over the totals.
+// Row 15 over the totals. What entered is as large as it is without its sign.
 fn large_totals(left: Grams, entered: SignedGrams, raised: Grams, uncredited: Grams) -> bool
     ensures { result ≡ large_totals left.0 entered.0 raised.0 uncredited.0 }
 {
     (WHOLE_GRAMS <= left.0)
-        | (entered.0 <= LEAST)
+        | (WHOLE_GRAMS <= entered.0.unsigned_abs())
         | (WHOLE_GRAMS <= raised.0)
         | (WHOLE_GRAMS <= uncredited.0)
 }
@@ -56,10 +48,11 @@ pub fn is_large(r: Reckoning) -> bool
     requires { r.count < SIZE }
     ensures { result ≡ large r }
 {
-    let figures = r.figures;
-    let left = figures.left;
-    let entered = r.entered;
-    let raised = figures.total_raised;
-    let uncredited = r.uncredited;
-    large_rows(figures, r.count) | large_totals(left, entered, raised, uncredited)
+    large_rows(r.figures, r.count)
+        | large_totals(
+            r.figures.left,
+            r.entered,
+            r.figures.total_raised,
+            r.uncredited,
+        )
 }

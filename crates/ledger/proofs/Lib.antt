@@ -2,5 +2,5 @@
 pub mod Sizes
 pub mod Bounds
 pub mod Places
-pub mod Raising
 pub mod Columns
+pub mod Inside

@@ -6,7 +6,7 @@ ghost use Rattle.quantity.specs.Limits.{whole_grams, line_grams};
 ghost use Rattle.goods.specs.Sums.{sum_to};
 ghost use Rattle.goods.specs.ByProcess.{SIZE, figures, Column};
 ghost use Rattle.goods.specs.Settling.{NoFigures};
-ghost use Rattle.ledger.specs.Ledger.{Small, added, charged_and_credited};
+ghost use Rattle.ledger.specs.Ledger.{Small, Room, added, booked, charged_and_credited};
 ghost use Rattle.ledger.specs.Moved.{no_grams_moved};
 ghost use Rattle.ledger.specs.Raising.{grams_added, raised_to_zero};
 ghost use Rattle.ledger.specs.Columns.{BEFORE_ENTRY, SizeAtMost, RoomAt, FitTogether, signed_figures, together};
@@ -35,7 +35,7 @@ pub struct Entry {
     pub uncredited: Grams,
 }
 
-// A line that moves no grams.
+// A line that moves no grams. It is written out, since Grams has no default.
 pub fn nothing() -> Entry
     ensures { result ≡ no_grams_moved }
 {
@@ -62,7 +62,7 @@ pub struct Totals {
     pub uncredited: Grams,
 }
 
-// The grams of each process by its number, and those of the whole works.
+// The grams of each process by its number, and those of the whole works: a struct by value with an array for each figure, as document 01 names it.
 #[derive(Clone, Copy)]
 pub struct Ledger {
     pub balances: SignedGramsByProcess,
@@ -72,40 +72,18 @@ pub struct Ledger {
     pub totals: Totals,
 }
 
-// A signed figure with grams added and grams taken off. A balance may have had its charge already.
-fn changed(held: SignedGrams, more: Grams, less: Grams) -> SignedGrams
-    requires held_bound { nat_abs held.0 ≤ BEFORE_ENTRY + line_grams }
-    requires more_le_line_grams { (more.0 ≤ line_grams) × (less.0 ≤ line_grams) }
-    ensures { result.0 ≡ held.0 +ℤ pos more.0 -ℤ pos less.0 }
-{
-    let plus = more.0;
-    let minus = less.0;
-    let grams = held.0;
-    SignedGrams(grams + (plus as i64) - (minus as i64))
-}
-
 // The balances with the charge added and the credit taken off.
 pub fn charge(balances: &mut [i64; SIZE], e: Entry)
     requires size_at_most { SizeAtMost BEFORE_ENTRY balances.old }
     requires small { Small e }
     ensures { balances.new ≡ charged_and_credited balances.old e.charged e.charge.0 e.credited e.credit.0 }
 {
-    let none = Grams(0);
-    let to = e.charged;
-    let charge = e.charge;
-    let held = balances[to];
-    let charged = changed(SignedGrams(held), charge, none);
-    let more = charged.0;
-    balances[to] = more;
-    let from = e.credited;
-    let credit = e.credit;
-    let kept = balances[from];
-    let credited = changed(SignedGrams(kept), none, credit);
-    let less = credited.0;
-    balances[from] = less;
+    // The casts lose nothing, and `i64::try_from` would add an error that cannot come.
+    balances[e.charged] += e.charge.0 as i64;
+    balances[e.credited] -= e.credit.0 as i64;
 }
 
-// Grams added in the place of a process, in one lent column of the ledger.
+// Grams added in the place of a process, in one lent column of the ledger. The array is lent, as three columns of two structs are.
 pub fn add(column: &mut [u64; SIZE], at: usize, grams: Grams)
     requires { RoomAt column.old at grams.0 }
     ensures { column.new ≡ added column.old at grams.0 }
@@ -119,10 +97,24 @@ pub fn enter(entered: &mut i64, e: Entry)
     requires small { Small e }
     ensures { entered.new ≡ entered.old +ℤ pos e.entering.0 -ℤ pos e.leaving.0 }
 {
-    let held = *entered;
-    let after = changed(SignedGrams(held), e.entering, e.leaving);
-    let grams = after.0;
-    *entered = grams;
+    *entered = *entered + (e.entering.0 as i64) - (e.leaving.0 as i64);
+}
+
+impl Ledger {
+    // One entry booked.
+    #[tactic(auto, unfolding(crate::specs::Ledger::booked))]
+    pub fn book(&mut self, e: Entry)
+        requires small { Small e }
+        requires room { Room self.old }
+        ensures { self.new ≡ booked self.old e }
+    {
+        charge(&mut self.balances.0, e);
+        add(&mut self.indirect.0, e.user, e.electricity);
+        add(&mut self.bought_direct.0, e.buyer, e.direct);
+        add(&mut self.bought_indirect.0, e.buyer, e.indirect);
+        enter(&mut self.totals.entered.0, e);
+        self.totals.uncredited.0 += e.uncredited.0;
+    }
 }
 
 // A balance raised to zero where it is below: the outcome, and the grams added.
@@ -137,70 +129,58 @@ pub fn raise(balance: SignedGrams) -> Raised
     ensures direct { result.direct.0 ≡ raised_to_zero balance.0 }
     ensures raised { result.raised.0 ≡ grams_added balance.0 }
 {
-    let grams = balance.0;
-    if grams < 0 {
-        return Raised {
+    let grams = Grams(balance.0.unsigned_abs());
+    if balance.0 < 0 {
+        Raised {
             direct: Grams(0),
-            raised: Grams((0 - grams) as u64),
-        };
-    }
-    Raised {
-        direct: Grams(grams as u64),
-        raised: Grams(0),
+            raised: grams,
+        }
+    } else {
+        Raised {
+            direct: grams,
+            raised: Grams(0),
+        }
     }
 }
 
+// In this function and the next two `count` is a plain number, as it is in the state of the works, which has its bound.
 // Each balance raised to zero: the outcomes in `direct` and the grams added in `raised`, which hold zeros at entry.
 pub fn raise_all(
-    direct: &mut [u64; SIZE],
-    raised: &mut [u64; SIZE],
-    balances: &[i64; SIZE],
+    direct: &mut GramsByProcess,
+    raised: &mut GramsByProcess,
+    balances: &SignedGramsByProcess,
     count: usize,
 )
     requires count_bound { count < SIZE }
-    requires size_at_most { SizeAtMost BEFORE_ENTRY balances.now }
-    requires no_figures { NoFigures direct.old × NoFigures raised.old }
-    ensures direct { Column count (λ k. raised_to_zero (signed_figures balances.now k)) direct.new }
-    ensures raised { Column count (λ k. grams_added (signed_figures balances.now k)) raised.new }
+    requires size_at_most { SizeAtMost BEFORE_ENTRY balances.now.0 }
+    requires no_figures { NoFigures direct.old.0 × NoFigures raised.old.0 }
+    ensures direct { Column count (λ k. raised_to_zero (signed_figures balances.now.0 k)) direct.new.0 }
+    ensures raised { Column count (λ k. grams_added (signed_figures balances.now.0 k)) raised.new.0 }
 {
-    let mut done: usize = 0;
-    while done < count {
-        let k = done + 1;
-        let balance = balances[k];
-        let r = raise(SignedGrams(balance));
-        direct[k] = r.direct.0;
-        raised[k] = r.raised.0;
-        done = k;
+    for k in 1..=count {
+        let r = raise(SignedGrams(balances.0[k]));
+        direct.0[k] = r.direct.0;
+        raised.0[k] = r.raised.0;
     }
 }
 
 // Two figures of each process together, in `both`, which holds zeros at entry.
-pub fn add_all(both: &mut [u64; SIZE], a: &[u64; SIZE], b: &[u64; SIZE], count: usize)
+pub fn add_all(both: &mut GramsByProcess, a: &GramsByProcess, b: &GramsByProcess, count: usize)
     requires count_bound { count < SIZE }
-    requires fit_together { FitTogether count a.now b.now }
-    requires no_figures { NoFigures both.old }
-    ensures { Column count (together a.now b.now) both.new }
+    requires fit_together { FitTogether count a.now.0 b.now.0 }
+    requires no_figures { NoFigures both.old.0 }
+    ensures { Column count (together a.now.0 b.now.0) both.new.0 }
 {
-    let mut done: usize = 0;
-    while done < count {
-        let k = done + 1;
-        both[k] = a[k] + b[k];
-        done = k;
+    for k in 1..=count {
+        both.0[k] = a.0[k] + b.0[k];
     }
 }
 
 // The figures of all processes together.
-pub fn total(a: &[u64; SIZE], count: usize) -> Grams
+pub fn total(a: &GramsByProcess, count: usize) -> Grams
     requires count_bound { count < SIZE }
-    requires a_bound { sum_to count (figures a.now) < whole_grams }
-    ensures { result.0 ≡ sum_to count (figures a.now) }
+    requires a_bound { sum_to count (figures a.now.0) < whole_grams }
+    ensures { result.0 ≡ sum_to count (figures a.now.0) }
 {
-    let mut sum: u64 = 0;
-    let mut done: usize = 0;
-    while done < count {
-        let k = done + 1;
-        sum += a[k];
-        done = k;
-    }
-    Grams(sum)
+    Grams(a.0[1..=count].iter().sum())
 }

@@ -1,16 +1,17 @@
 -- How many fields a lent record has: the tests of its words in the code's order. Assumes nothing.
 use mathlib.Core.Path.{◌≡◌, refl, sym, ap, ap₂, ◌∙◌}
-use mathlib.Core.Bool.{Bool, true, false, cond, not}
+use mathlib.Core.Bool.{Bool, true, false, cond, not, ◌&&◌}
 use mathlib.Core.List.{List, [], ◌∷◌, map}
-use Prim.Native.Nat.{ℕ, ◌+◌, ◌-◌, ◌≤◌, ◌<◌}
-use native.Mathlib.Numerals.{add-one}
+use Prim.Native.Nat.{ℕ, ◌+◌, ◌-◌, ◌≤◌}
 use native.Mathlib.Omega.{arith}
 use borrow.Author.Tests.{eqb-true, ne_eqb}
 use lib.Dec.{eqb}
 use lib.ListN.{length, get_or, take, drop, replicate, length-take, length-drop, length-map, drop_of_length-le}
-use lib.Seq.{drop-cons, drop-drop}
+use lib.Seq.{drop-drop, take_all}
+use Rattle.std.specs.List.{list_all}
 use Rattle.lines.specs.Records.{Record}
-use Rattle.sheet.specs.Kinds.{Kind, kinds, kind_of, kind_among, letter, rules}
+use Rattle.sheet.specs.Kinds.{kinds, kind_of, kind_among, letter, rules}
+use Rattle.sheet.specs.declared.Kind.{Kind}
 use Rattle.sheet.proofs.Table.{all_of, each_passes, every_kind}
 use Rattle.decimal.proofs.Bools.{never, and_both}
 use Rattle.lent.specs.Lent.{field_lent, all_zero, field_count, field_words, record_lent}
@@ -21,14 +22,15 @@ pub none_left : (words : List ℕ) (k : ℕ) → length words ≤ k → all_zero
 unfolding all_zero
 none_left words k h = rw (drop_of_length-le words h)
 
-module _ (words : List ℕ) (k : ℕ) (inside : k < length words) where
-  pub one_zero : get_or words k 0 ≡ 0 → all_zero (drop k words) ≡ all_zero (drop (k + 1) words)
-  unfolding all_zero
-  one_zero e = rw (add-one k, drop-cons words k 0 inside, e)
+zeros_are : (ws : List ℕ) → all_zero ws ≡ list_all (λ w. eqb w 0) ws
+unfolding all_zero
+zeros_are [] = refl
+zeros_are (w ∷ ws) = ap (λ (b : Bool). eqb w 0 && b) (zeros_are ws)
 
-  pub one_other : (get_or words k 0 ≡ 0 → ⊥) → all_zero (drop k words) ≡ false
-  unfolding all_zero
-  one_other e = rw (drop-cons words k 0 inside, ne_eqb (get_or words k 0) 0 e)
+-- the words from a place on, as the code goes over them
+pub zeros_from : (words : List ℕ) (k : ℕ) → all_zero (drop k words) ≡ list_all (λ w. eqb w 0) (take (length words - k) (drop k words))
+zeros_from words k =
+    zeros_are (drop k words) ∙ ap (list_all (λ w. eqb w 0)) (sym (take_all (length words - k) (drop k words) (omega (arith, length-drop k words))))
 
 pub all_zeros : (ws : List ℕ) → all_zero ws ≡ true → ws ≡ replicate (length ws) 0
 unfolding all_zero
@@ -75,6 +77,9 @@ unfolding kind_of kind_among rules
 some_letter words some =
     let first : get_or words 0 0 ≡ 0 → ⊥ = λ e. some (ap (λ (w : ℕ). field_count (kind_of w)) e) in
     omega (arith, first, ap (λ (r : Record). r.letter) (some_lent words some))
+
+pub letter_some : (words : List ℕ) → 1 ≤ (record_lent words).letter → count_of words ≡ 0 → ⊥
+letter_some words known e = omega (arith, known, ap (λ (r : Record). r.letter) (none_lent words e))
 
 module _ (words : List ℕ) (count : ℕ) (is : count ≡ count_of words) where
   module _ (some : 1 ≤ count) where

@@ -6,5 +6,4 @@ pub mod Counts
 pub mod Lines
 pub mod Full
 pub mod Stores
-pub mod Spare
 pub mod Steps

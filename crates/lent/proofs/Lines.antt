@@ -7,13 +7,14 @@ use native.Mathlib.Numerals.{add-one}
 use native.Mathlib.Omega.{arith}
 use borrow.Author.Tests.{ne_eqb}
 use lib.Dec.{eqb}
-use lib.ListN.{length, take, drop, get_or, length-append, length-map, length-drop}
-use lib.Seq.{take-length, take-suc, get_or-drop}
+use lib.ListN.{length, take, drop, get_or, length-append, length-map, length-take, length-drop}
+use lib.Seq.{take-length, take-suc, get_or-take, get_or-drop}
 use Rattle.decimal.specs.Spelling.{spelling}
 use Rattle.lines.specs.Lines.{COMMA}
 use Rattle.lines.specs.Records.{Field, Record}
 use Rattle.lines.specs.Spelling.{spell_field, spell_fields, spell_line}
-use Rattle.sheet.specs.Kinds.{Kind, kind_of, letter}
+use Rattle.sheet.specs.Kinds.{kind_of, letter}
+use Rattle.sheet.specs.declared.Kind.{Kind}
 use Rattle.lent.specs.Lent.{DASH_WORD, field_lent, all_zero, field_count, field_words, record_lent, spell_lent}
 use Rattle.lent.proofs.Counts.{count_of, none_lent}
 
@@ -26,6 +27,12 @@ pub number_spelt : (word : ℕ) → (word ≡ DASH_WORD → ⊥) → spell_field
 number_spelt word h = rw (ne_eqb word DASH_WORD h)
 
 -- ---- the first fields of a record
+
+-- the words of fields, as the code goes over them
+pub field_at : (words : List ℕ) (n k : ℕ) → k < length (take n (drop 1 words)) → get_or (take n (drop 1 words)) k 0 ≡ get_or words (k + 1) 0
+field_at words n k h =
+    get_or-take n (drop 1 words) k 0 (omega (arith, length-take n (drop 1 words))) ∙ get_or-drop 1 words k 0
+    ∙ ap (λ (i : ℕ). get_or words i 0) (let e : 1 + k ≡ k + 1 = omega arith in e)
 
 unfoldable pub fields_to : (words : List ℕ) → (i : ℕ) → List ℕ
 fields_to words i = spell_fields (map field_lent (take i (drop 1 words)))

@@ -14,7 +14,8 @@ use Rattle.lines.specs.Lines.{LF, COMMA, Line, lines_of}
 use Rattle.lines.specs.Records.{Field, number, dash, other, Record, field, record_of, records_of}
 use Rattle.lines.specs.Spelling.{spell_line, spell_sheet}
 use Rattle.lines.specs.Words.{CAP}
-use Rattle.sheet.specs.Kinds.{Kind, kind, kinds, Rule, rules, rules_of, method_rules}
+use Rattle.sheet.specs.Kinds.{kind, kinds, Rule, rules, rules_of, method_rules}
+use Rattle.sheet.specs.declared.Kind.{Kind}
 use Rattle.sheet.specs.Refusals.{not_number, out_of_range}
 use Rattle.sheet.specs.Ranges.{KeepsRules, KeepsRanges}
 use Rattle.sheet.specs.Verdict.{All, accepted, first_of, sheet_checks}

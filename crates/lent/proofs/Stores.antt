@@ -1,25 +1,25 @@
 -- A lent record as the code holds it: its letter in a byte, the words of its fields stored one after the other, its part of the list. Assumes
 -- nothing.
-use mathlib.Core.Path.{◌≡◌, refl, sym, ap, ap₂, ◌∙◌}
-use mathlib.Core.Bool.{Bool, true, false, cond}
-use mathlib.Core.List.{List, [], ◌∷◌, map}
-use Prim.Native.Nat.{ℕ, zero, suc, ◌+◌, ◌-◌, ◌≤◌, ◌<◌, min}
+use mathlib.Core.Path.{◌≡◌, refl, sym, ap, ◌∙◌}
+use mathlib.Core.Bool.{true}
+use mathlib.Core.List.{List}
+use Prim.Native.Nat.{ℕ, ◌+◌, ◌-◌, ◌<◌, min}
 use native.Mathlib.Decide.{dec_le}
 use native.Mathlib.Nat.{lt_of_not-le}
-use native.Mathlib.Numerals.{add-one}
 use native.Mathlib.Omega.{arith}
-use borrow.Author.Tests.{eqb-true, eqb-false, eq-eqb, ne_eqb, ltb-true}
-use lib.Dec.{eqb, ltb}
-use lib.ListN.{length, get_or, take, drop, set, replicate, length-take, length-drop, length-map, drop_of_length-le}
-use lib.Seq.{sets, drop-cons, get_or-take, get_or-drop, take_all}
-use Rattle.lines.specs.Records.{Field, other, Record}
-use Rattle.lines.specs.Words.{WORDS, word, words}
-use Rattle.sheet.specs.Kinds.{Kind, kinds, kind_of, letter}
+use borrow.Author.Tests.{eqb-true, eq-eqb, ne_eqb, ltb-true}
+use lib.Dec.{ltb}
+use lib.ListN.{length, take, drop, replicate, length-drop}
+use lib.Seq.{take_all}
+use Rattle.lines.specs.Records.{Record}
+use Rattle.lines.specs.Words.{WORDS, words}
+use Rattle.sheet.specs.Kinds.{kinds, kind_of, letter}
+use Rattle.sheet.specs.declared.Kind.{Kind}
 use Rattle.sheet.proofs.Table.{all_of, each_passes, every_kind, letter_is}
 use Rattle.lines.specs.declared.LineRead.{LineRead}
 use Rattle.lent.specs.AsRead.{words_at, LentAt}
-use Rattle.lent.specs.Lent.{RECORD, field_lent, all_zero, field_count, field_words, record_lent, spell_lent}
-use Rattle.lent.proofs.Counts.{some_fields, count_of, none_lent, some_lent}
+use Rattle.lent.specs.Lent.{RECORD, field_count, record_lent, spell_lent}
+use Rattle.lent.proofs.Counts.{some_fields, count_of, none_lent}
 
 -- ---- the letter
 
@@ -33,76 +33,23 @@ letter_small first some =
     let small = every_kind (λ (j : Kind). ltb (letter j) 256 ≡ true) refl (each_passes (λ (j : Kind). ltb (letter j) 256) kinds refl) k in
     omega (arith, is, ltb-true (letter k) 256 small)
 
--- ---- the fields
-
-map_at : (ws : List ℕ) (k : ℕ) (f : Field) → k < length ws → get_or (map field_lent ws) k f ≡ field_lent (get_or ws k 0)
-map_at [] k f h = absurd (omega arith)
-map_at (w ∷ ws) zero f h = refl
-map_at (w ∷ ws) (suc k) f h = map_at ws k f (omega arith)
-
-part_at : (b : Bool) (n : ℕ) (behind : List ℕ) (k : ℕ) → k < length (cond b (take n behind) behind)
-    → get_or (cond b (take n behind) behind) k 0 ≡ get_or behind k 0
-part_at true n behind k h = get_or-take n behind k 0 (omega (arith, length-take n behind))
-part_at false n behind k h = refl
-
--- a field is what the word at its place says
-said_at : (lent : List ℕ) (k : ℕ) → k < length (record_lent lent).said → get_or (record_lent lent).said k other ≡ field_lent (get_or lent (k + 1) 0)
-said_at lent k h = go (eqb (count_of lent) 0) refl
-  where
-    go : (b : Bool) → eqb (count_of lent) 0 ≡ b → get_or (record_lent lent).said k other ≡ field_lent (get_or lent (k + 1) 0)
-    go true e = absurd (let none = ap (λ (r : Record). length r.said) (none_lent lent (eqb-true (count_of lent) 0 e)) in omega (arith, none))
-    go false e =
-        let said = ap (λ (r : Record). r.said) (some_lent lent (eqb-false (count_of lent) 0 e)) in
-        let ws : List ℕ = field_words (kind_of (get_or lent 0 0)) (drop 1 lent) in
-        let inside : k < length ws = omega (arith, ap length said, length-map ws field_lent) in
-        ap (λ (l : List Field). get_or l k other) said ∙ map_at ws k other inside
-        ∙ ap field_lent
-        (part_at (all_zero (drop (count_of lent) (drop 1 lent))) (count_of lent) (drop 1 lent) k inside ∙ get_or-drop 1 lent k 0
-        ∙ ap (λ (n : ℕ). get_or lent n 0) (let e : 1 + k ≡ k + 1 = omega arith in e))
-
--- the words of the first k fields are stored, and those of the others are left
-pub record Stored (lent held : List ℕ) (k : ℕ) : Type 0 where
-  pub most : k ≤ length (record_lent lent).said
-  pub left : sets held k (map word (drop k (record_lent lent).said)) ≡ words (record_lent lent).said
-
-pub none_stored : (lent : List ℕ) → Stored lent (replicate WORDS 0) 0
-unfolding words
-none_stored lent = record { most = omega arith; left = refl }
-
-module _ (lent held : List ℕ) (k : ℕ) (stored : Stored lent held k) where
-  abbrev said : List Field
-  said = (record_lent lent).said
-
-  pub one_stored : (w : ℕ) → k < length (record_lent lent).said → w ≡ word (field_lent (get_or lent (k + 1) 0)) → Stored lent (set held k w) (k + 1)
-  one_stored w h e =
-      record {
-        most = omega arith;
-        left =
-            ap₂ (λ (v n : ℕ). sets (set held k v) n (map word (drop n said))) (e ∙ ap word (sym (said_at lent k h))) (add-one k)
-            ∙ sym (ap (λ (l : List Field). sets held k (map word l)) (drop-cons said k other h)) ∙ stored.left;
-      }
-
-  pub all_stored : length (record_lent lent).said ≤ k → held ≡ words (record_lent lent).said
-  all_stored h =
-      let none : drop k said ≡ [] = drop_of_length-le said h in
-      sym (ap (λ (l : List Field). sets held k (map word l)) none) ∙ stored.left
-
 -- ---- the record's part of the list
 
-module _ (list : List ℕ) (at stop : ℕ) (inside : at < length list) (is : stop ≡ min (at + RECORD) (length list)) where
-  abbrev part : List ℕ
-  part = take (stop - at) (drop at list)
+-- as many words as a record has, of those from a place on
+pub part_is : (list : List ℕ) (at n : ℕ) → n ≡ min (length (take (length list - at) (drop at list))) RECORD
+    → take n (take (length list - at) (drop at list)) ≡ words_at list at
+part_is list at n e =
+    let all : take (length list - at) (drop at list) ≡ drop at list = take_all (length list - at) (drop at list) (omega (arith, length-drop at list)) in
+    ap (λ (l : List ℕ). take n l) all ∙ first (drop at list) n (e ∙ ap (λ (l : List ℕ). min (length l) RECORD) all)
+  where
+    first : (l : List ℕ) (n : ℕ) → n ≡ min (length l) RECORD → take n l ≡ take RECORD l
+    first l n e =
+        elim (dec_le RECORD (length l)) [
+          | yes h ↦ ap (λ (n : ℕ). take n l) (let e : n ≡ RECORD = omega arith in e)
+          | no h ↦ let less = lt_of_not-le h in take_all n l (omega arith) ∙ sym (take_all RECORD l (omega arith))
+        ]
 
-  part_is : part ≡ words_at list at
-  part_is =
-      elim (dec_le (at + RECORD) (length list)) [
-        | yes h ↦ ap (λ (n : ℕ). take n (drop at list)) (let e : stop - at ≡ RECORD = omega arith in e)
-        | no h ↦
-            let less = lt_of_not-le h in
-            let long = length-drop at list in
-            take_all (stop - at) (drop at list) (omega arith) ∙ sym (take_all RECORD (drop at list) (omega arith))
-      ]
-
+module _ (list : List ℕ) (at : ℕ) (part : List ℕ) (part_is : part ≡ words_at list at) where
   -- what was read from the part is the record that starts there
   pub lent_at : (start : ℕ) (l : LineRead) → l.letter ≡ (record_lent part).letter → l.count ≡ length (record_lent part).said
       → l.words ≡ words (record_lent part).said → l.end ≡ start + length (spell_lent (record_lent part)) → LentAt list at start l

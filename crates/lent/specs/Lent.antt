@@ -5,7 +5,8 @@ use Rattle.quantity.specs.Limits.{limits}
 use Rattle.lines.specs.Lines.{LF}
 use Rattle.lines.specs.Records.{Field, number, dash, other, Record}
 use Rattle.lines.specs.Spelling.{spell_line}
-use Rattle.sheet.specs.Kinds.{Kind, kind_of, letter, no_method, rules}
+use Rattle.sheet.specs.Kinds.{kind_of, letter, no_method, rules}
+use Rattle.sheet.specs.declared.Kind.{Kind}
 
 abbrev pub RECORD : ℕ
 RECORD = 9

@@ -1,10 +1,10 @@
 // Document 01, "Source streams": the fields of an S line from code on, judged by the rules of one method.
-#![tactic(auto)]
+#![tactic(auto, unfolding(checks::specs::Steps::words_number))]
 
 ghost use Rattle.std.specs.Prelude.{◌≡◌};
 ghost use Rattle.sheet.specs.Kinds.{combustion, process_emission, mass_balance};
-ghost use Rattle.checks.specs.Numbers.{refusal_number};
-ghost use Rattle.checks.specs.Steps.{or_else, words_number};
+ghost use Rattle.checks.specs.Numbers.{number_judged};
+ghost use Rattle.checks.specs.Steps.{words_number};
 
 use checks::ranges::KILOS;
 use checks::refusals::Refusal;
@@ -33,37 +33,37 @@ const CARBON_CONTENT: u64 = 1000000;
 const WHOLE: u64 = 10000;
 
 // `code,kg,a,b,c,d` of method 1, burning
-pub fn combustion(before: Refusal, words: &[u64; WORDS]) -> Refusal
-    ensures { refusal_number result ≡ or_else (refusal_number before) (words_number 2 combustion words.now) }
+pub fn combustion(words: &[u64; WORDS]) -> Result<(), Refusal>
+    ensures { number_judged result ≡ words_number 2 combustion words.now }
 {
-    let fields = field(before, words[2], 0, FUELS);
-    let fields = field(fields, words[3], 1, KILOS);
-    let fields = field_or_dash(fields, words[4], 1, NET_CALORIFIC_VALUE);
-    let fields = field_or_dash(fields, words[5], 0, COMBUSTION_FACTOR);
-    let fields = field(fields, words[6], 0, WHOLE);
-    field(fields, words[7], 0, WHOLE)
+    field(words[2], 0, FUELS)?;
+    field(words[3], 1, KILOS)?;
+    field_or_dash(words[4], 1, NET_CALORIFIC_VALUE)?;
+    field_or_dash(words[5], 0, COMBUSTION_FACTOR)?;
+    field(words[6], 0, WHOLE)?;
+    field(words[7], 0, WHOLE)
 }
 
 // of method 2, process emission
-pub fn process_emission(before: Refusal, words: &[u64; WORDS]) -> Refusal
-    ensures { refusal_number result ≡ or_else (refusal_number before) (words_number 2 process_emission words.now) }
+pub fn process_emission(words: &[u64; WORDS]) -> Result<(), Refusal>
+    ensures { number_judged result ≡ words_number 2 process_emission words.now }
 {
-    let fields = field(before, words[2], 0, CARBONATES);
-    let fields = field(fields, words[3], 1, KILOS);
-    let fields = field_or_dash(fields, words[4], 0, PROCESS_FACTOR);
-    let fields = field(fields, words[5], 0, 0);
-    let fields = field(fields, words[6], 0, WHOLE);
-    field(fields, words[7], 0, WHOLE)
+    field(words[2], 0, CARBONATES)?;
+    field(words[3], 1, KILOS)?;
+    field_or_dash(words[4], 0, PROCESS_FACTOR)?;
+    field(words[5], 0, 0)?;
+    field(words[6], 0, WHOLE)?;
+    field(words[7], 0, WHOLE)
 }
 
 // of methods 3 and 4, carbon going in and carbon going out
-pub fn mass_balance(before: Refusal, words: &[u64; WORDS]) -> Refusal
-    ensures { refusal_number result ≡ or_else (refusal_number before) (words_number 2 mass_balance words.now) }
+pub fn mass_balance(words: &[u64; WORDS]) -> Result<(), Refusal>
+    ensures { number_judged result ≡ words_number 2 mass_balance words.now }
 {
-    let fields = field(before, words[2], 0, 0);
-    let fields = field(fields, words[3], 1, KILOS);
-    let fields = field(fields, words[4], 0, CARBON_CONTENT);
-    let fields = field(fields, words[5], 0, 0);
-    let fields = field(fields, words[6], WHOLE, WHOLE);
-    field(fields, words[7], 0, WHOLE)
+    field(words[2], 0, 0)?;
+    field(words[3], 1, KILOS)?;
+    field(words[4], 0, CARBON_CONTENT)?;
+    field(words[5], 0, 0)?;
+    field(words[6], WHOLE, WHOLE)?;
+    field(words[7], 0, WHOLE)
 }

@@ -4,7 +4,7 @@
 ghost use Rattle.std.specs.Prelude.{◌≡◌, ◌≤◌, nat_abs};
 ghost use Rattle.ledger.specs.Moved.{stream_moved, bought_moved};
 
-use ledger::{Entry, nothing};
+use ledger::{Entry, nothing, raise};
 use quantity::{Grams, SignedGrams};
 
 // A bought precursor: both figures enter the works.
@@ -12,13 +12,13 @@ pub fn bought_entry(buyer: usize, direct: Grams, indirect: Grams) -> Entry
     requires { (direct.0 ≤ 1000000000000000) × (indirect.0 ≤ 1000000000000000) }
     ensures { result ≡ bought_moved buyer direct.0 indirect.0 }
 {
-    let both = Grams(direct.0 + indirect.0);
-    let mut bought = nothing();
-    bought.buyer = buyer;
-    bought.direct = direct;
-    bought.indirect = indirect;
-    bought.entering = both;
-    bought
+    Entry {
+        buyer,
+        direct,
+        indirect,
+        entering: Grams(direct.0 + indirect.0),
+        ..nothing()
+    }
 }
 
 // A source stream: a process is charged with what is counted plus, and credited with what is counted minus.
@@ -26,15 +26,14 @@ pub fn stream_entry(process: usize, grams: SignedGrams) -> Entry
     requires { nat_abs grams.0 ≤ 1000000000000000 }
     ensures { result ≡ stream_moved process grams.0 }
 {
-    let parts = ledger::raise(grams);
-    let plus = parts.direct;
-    let minus = parts.raised;
-    let mut stream = nothing();
-    stream.charged = process;
-    stream.charge = plus;
-    stream.credited = process;
-    stream.credit = minus;
-    stream.entering = plus;
-    stream.leaving = minus;
-    stream
+    let parts = raise(grams);
+    Entry {
+        charged: process,
+        charge: parts.direct,
+        credited: process,
+        credit: parts.raised,
+        entering: parts.direct,
+        leaving: parts.raised,
+        ..nothing()
+    }
 }

@@ -9,8 +9,12 @@ use native.Mathlib.Numerals.{add-one}
 use native.Mathlib.Omega.{arith}
 use borrow.Author.Tests.{eq-eqb, ne_eqb, lt-ltb, le-ltb}
 use lib.Dec.{eqb, ltb}
-use lib.ListN.{length, take, drop, get_or, length-take, length-drop, drop_of_length-le}
-use lib.Seq.{take-nil, drop-cons, drop-drop}
+use lib.ListN.{length, take, drop, length-take, length-drop, drop_of_length-le}
+use lib.Seq.{take-nil, drop-drop}
+use Rattle.std.proofs.Common.{Option}
+use Rattle.std.specs.List.{AllWithin, HoldsAt}
+use Rattle.std.specs.Option.{MatchOption, unwrap_or}
+use Rattle.std.proofs.lemmas.Iterator.{index_from_first}
 use Rattle.decimal.proofs.Bools.{ltb_suc}
 use Rattle.lines.specs.Lines.{LF, Line, line, before_line, lines_of, line_bytes, line_start}
 use Rattle.lines.specs.Words.{line_length, line_at}
@@ -20,13 +24,20 @@ use Rattle.lines.proofs.OneRecord.{line_part}
 
 -- ---- a line's length, byte by byte
 
-pub line_past : (s : List ℕ) (i : ℕ) → i < length s → (get_or s i 0 ≡ LF → ⊥) → line_length (drop i s) ≡ suc (line_length (drop (i + 1) s))
+line_lf : (b : ℕ) (bytes : List ℕ) → b ≡ LF → line_length (b ∷ bytes) ≡ 0
 unfolding line_length
-line_past s i h n = rw (drop-cons s i 0, add-one) (simp (ne_eqb _ _ n))
+line_lf b bytes e = simp (eq-eqb _ _ e)
 
-pub line_lf : (s : List ℕ) (i : ℕ) → i < length s → get_or s i 0 ≡ LF → line_length (drop i s) ≡ 0
+line_past : (b : ℕ) (bytes : List ℕ) → (b ≡ LF → ⊥) → line_length (b ∷ bytes) ≡ line_length bytes + 1
 unfolding line_length
-line_lf s i h e = rw (drop-cons s i 0) (simp (eq-eqb _ _ e))
+line_past b bytes n = simp (ne_eqb _ _ n) (omega arith)
+
+-- it ends before the first byte that is an LF
+pub line_found : (bytes : List ℕ) (r : Option ℕ)
+    → MatchOption r (AllWithin (λ b. b ≡ LF → ⊥) bytes 0 (length bytes)) (λ i. (i < length bytes) × HoldsAt (λ b. b ≡ LF) bytes i × AllWithin (λ b. b ≡ LF → ⊥) bytes 0 i)
+    → line_length bytes ≡ unwrap_or r (length bytes)
+unfolding line_length
+line_found bytes r first = index_from_first line_length (λ b. b ≡ LF) (λ b. b ≡ LF → ⊥) refl line_lf line_past bytes r first
 
 pub line_none : (s : List ℕ) (i : ℕ) → length s ≤ i → line_length (drop i s) ≡ 0
 unfolding line_length

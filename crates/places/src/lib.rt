@@ -19,14 +19,9 @@ pub fn line_end(s: &[u8], start: usize) -> usize
     ensures value { result ≡ start + line_length (drop start s.now) }
     ensures bounded { (start ≤ result) × (result ≤ length s.now) }
 {
-    let mut end = start;
-    while end < s.len() {
-        if s[end] == b'\n' {
-            return end;
-        }
-        end += 1;
-    }
-    end
+    let rest = &s[start..];
+    let length = rest.iter().position(|&byte| byte == b'\n');
+    start + length.unwrap_or(rest.len())
 }
 
 // The place where a line starts. Line 1 is the first.
@@ -34,13 +29,11 @@ fn line_start(s: &[u8], line: usize) -> usize
     ensures { result ≡ line_start (lines_of s.now) line }
 {
     let mut start: usize = 0;
-    let mut left = line;
-    while 1 < left {
+    for _ in 1..line {
         if s.len() <= start {
             return start;
         }
         start = line_end(s, start) + 1;
-        left -= 1;
     }
     start
 }

@@ -1,14 +1,10 @@
 -- A source stream by its method, and numbers with a sign. Assumes nothing.
 use mathlib.Core.Bool.{Bool, true, false, cond}
-use mathlib.Core.Path.{◌≡◌, refl, sym, ap, ◌∙◌}
-use Prim.Native.Nat.{ℕ, zero, suc, ◌≤◌}
-use native.Mathlib.Omega.{arith}
+use mathlib.Core.Path.{◌≡◌, refl, sym, ap}
+use Prim.Native.Nat.{ℕ, zero, suc}
 use borrow.Author.Tests.{ne_eqb}
 use lib.Dec.{eqb}
-use lib.IntN.{ℤ, pos, neg_ℤ, nat_abs, ◌-ℤ◌, +ℤ_idl}
-use mir.Syntax.{w64}
-use mir.Val.{SFits, to_z, of_z}
-use mir.Facts.{to_z_pos, to_z-of_z}
+use lib.IntN.{pos, neg_ℤ, nat_abs}
 use Rattle.quantity.specs.Streams.{combustion_grams, process_grams, carbon_grams, grams_before_biomass, counted}
 
 -- ---- the grams before the biomass step, by method
@@ -39,20 +35,3 @@ counted_size m grams = go (eqb m 4)
     go : (out : Bool) → nat_abs (cond out (neg_ℤ (pos grams)) (pos grams)) ≡ grams
     go true = minus_size grams
     go false = refl
-
--- ---- counted plus and counted minus
-pub plus_bits : {n : ℕ} → n ≤ 1000000000000000 → to_z w64 n ≡ pos n
-plus_bits h = to_z_pos w64 (omega arith)
-
-less : (n : ℕ) → pos 0 -ℤ pos n ≡ neg_ℤ (pos n)
-less n = +ℤ_idl (neg_ℤ (pos n))
-
-minus_sfits : (n : ℕ) → n ≤ 1000000000000000 → SFits w64 (neg_ℤ (pos n))
-minus_sfits zero h = record { sfits = omega arith }
-minus_sfits (suc n) h = record { sfits = omega arith }
-
-pub minus_fits : (n : ℕ) → n ≤ 1000000000000000 → SFits w64 (pos 0 -ℤ to_z w64 n)
-minus_fits n h = rw (plus_bits h, less n) (minus_sfits n h)
-
-pub minus_bits : (n : ℕ) → n ≤ 1000000000000000 → to_z w64 (of_z w64 (pos 0 -ℤ to_z w64 n)) ≡ neg_ℤ (pos n)
-minus_bits n h = to_z-of_z (minus_fits n h) ∙ ap (λ (z : ℤ). pos 0 -ℤ z) (plus_bits h) ∙ less n

@@ -1,7 +1,10 @@
-// Document 01: grams of carbon dioxide, kilograms of goods and megajoules are three kinds of quantity.
+// Document 01: grams of carbon dioxide, kilograms of goods, megajoules and kilowatt-hours are four kinds of quantity.
 #![tactic(auto)]
 
 pub mod limits;
+pub mod method;
+
+ghost use Rattle.std.specs.Prelude.{◌≡◌, ℕ};
 
 // Grams of carbon dioxide.
 #[derive(Clone, Copy)]
@@ -18,3 +21,40 @@ pub struct Kilos(pub u64);
 // Megajoules of heat, waste gas and fuel.
 #[derive(Clone, Copy)]
 pub struct Megajoules(pub u64);
+
+// Kilowatt-hours of electricity.
+#[derive(Clone, Copy)]
+pub struct KilowattHours(pub u64);
+
+// A quantity that a line weighs by its own factor.
+pub trait Quantity {
+    ghost amount: { Self → ℕ };
+
+    fn amount(self) -> u64
+        ensures { result ≡ amount self };
+}
+
+// Each unit has an impl of its own: one for all that hold a number would let grams be weighed too.
+impl Quantity for Kilos {
+    ghost amount = { λ mass. mass.0 };
+
+    fn amount(self) -> u64 {
+        self.0
+    }
+}
+
+impl Quantity for Megajoules {
+    ghost amount = { λ energy. energy.0 };
+
+    fn amount(self) -> u64 {
+        self.0
+    }
+}
+
+impl Quantity for KilowattHours {
+    ghost amount = { λ energy. energy.0 };
+
+    fn amount(self) -> u64 {
+        self.0
+    }
+}

@@ -36,20 +36,20 @@ module _ (rs : List Record) (w : Works) (kilos : List ℕ) (g : Gathered rs w ki
   unfolding raised
   raised_is k = ap grams_added (g.balance_at k)
 
-  count_in : (j : ℕ) → j ≤ w.count → j < SIZE
+  count_in : (j : ℕ) → j ≤ w.noted.count → j < SIZE
   count_in j h = omega (arith, g.few)
 
-  pub pairs_is : (i j : ℕ) → j ≤ w.count → pairs kilos i j ≡ kilos_between rs i j
+  pub pairs_is : (i j : ℕ) → j ≤ w.noted.count → pairs kilos i j ≡ kilos_between rs i j
   pairs_is i j h = g.kilos_at i j (count_in j h)
 
-  settleable : (own : ℕ → ℕ) → sum_to w.count own < whole_grams → Settleable w.count (figures w.outputs.0) (pairs kilos) own
+  settleable : (own : ℕ → ℕ) → sum_to w.noted.count own < whole_grams → Settleable w.noted.count (figures w.noted.outputs.0) (pairs kilos) own
   settleable own small = record {
     some = λ i l h. rw (g.output_at i) (g.made i l h);
     small = λ i l h. omega (arith, g.output_at i, g.outputs_small i);
     ahead = λ i j l h m. pairs_is i j (omega arith) ∙ forward n rs ok.valid i j h;
     within = λ i l h. omega (
       arith,
-      sum_cong w.count (pairs kilos i) (kilos_between rs i) (λ k a b. pairs_is i k b),
+      sum_cong w.noted.count (pairs kilos i) (kilos_between rs i) (λ k a b. pairs_is i k b),
       g.output_at i,
       ap (λ (m : ℕ). sum_to m (kilos_between rs i)) g.count,
       ok.within i,
@@ -57,18 +57,18 @@ module _ (rs : List Record) (w : Works) (kilos : List ℕ) (g : Gathered rs w ki
     total = small;
   }
 
-  own_direct_sum : sum_to w.count (own_direct w.ledger) ≡ sum_to n (λ k. direct rs k + bought_direct rs k)
+  own_direct_sum : sum_to w.noted.count (own_direct w.ledger) ≡ sum_to n (λ k. direct rs k + bought_direct rs k)
   own_direct_sum = rw g.count (sum_ext n _ _ own_direct_is)
 
-  own_indirect_sum : sum_to w.count (own_indirect w.ledger) ≡ sum_to n (λ k. indirect rs k + bought_indirect rs k)
+  own_indirect_sum : sum_to w.noted.count (own_indirect w.ledger) ≡ sum_to n (λ k. indirect rs k + bought_indirect rs k)
   own_indirect_sum = rw g.count (sum_ext n _ _ own_indirect_is)
 
-  pub raised_sum : sum_to w.count (raised_held w.ledger) ≡ total_raised rs
+  pub raised_sum : sum_to w.noted.count (raised_held w.ledger) ≡ total_raised rs
   unfolding total_raised
   raised_sum = rw g.count (sum_ext n _ _ raised_is)
 
   -- where no sum over all lines reaches 2^63
-  pub ready : SumsBelow rs → Ready w.ledger w.outputs.0 kilos w.count
+  pub ready : SumsBelow rs → Ready w.ledger w.noted.outputs.0 kilos w.noted.count
   ready sums = record {
     few = g.few;
     balances = g.room.balances;

@@ -1,6 +1,5 @@
 -- For the code only: the works closed.
 use Rattle.std.specs.Prelude.{◌≡◌, List, ℕ}
-use Rattle.checks.specs.declared.refusals.Refusal.TheVariants.{Accepted}
 use Rattle.closing.specs.Closing.{Closed}
 use Rattle.reckoning.specs.declared.Closing.{Closing}
 use Rattle.works.specs.declared.Works.{Works}
@@ -9,10 +8,8 @@ use Rattle.reckoning.specs.declared.Reckoning.{Reckoning}
 -- an accepted sheet, closed
 abbrev pub accepted_as : Works → Closing → Reckoning
 accepted_as w c = record {
-  refusal = Accepted;
-  line = 0;
-  count = w.count;
-  outputs = w.outputs;
+  count = w.noted.count;
+  outputs = w.noted.outputs;
   figures = c;
   entered = w.ledger.totals.entered;
   uncredited = w.ledger.totals.uncredited;
@@ -20,4 +17,4 @@ accepted_as w c = record {
 
 pub record ClosedAs (w : Works) (kilos : List ℕ) (r : Reckoning) : Type 0 where
   pub is : r ≡ accepted_as w r.figures
-  pub closed : Closed w.ledger w.outputs.0 kilos w.count r.figures
+  pub closed : Closed w.ledger w.noted.outputs.0 kilos w.noted.count r.figures

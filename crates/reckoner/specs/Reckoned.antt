@@ -1,15 +1,15 @@
 -- For the reader. Document 01, "The report" and "Sheets sent back": the verdict and its line, and the figures of an accepted sheet.
-use Rattle.std.specs.Prelude.{◌≡◌, List, ℕ, ◌≤◌, ◌<◌, nat_abs}
+use Rattle.std.specs.Prelude.{◌≡◌, List, ℕ, ◌≤◌, ◌<◌, nat_abs, Result, MatchResult}
 use Rattle.lines.specs.Records.{Record, records_of}
 use Rattle.goods.specs.ByProcess.{Column}
 use Rattle.quantity.specs.Limits.{limits, whole_grams}
-use Rattle.sheet.specs.Verdict.{accepted, first_of, number_of, line_of}
-use Rattle.checks.specs.Numbers.{refusal_number}
+use Rattle.sheet.specs.Verdict.{accepted, first_of}
+use Rattle.checks.specs.Numbers.{refused_by}
+use Rattle.checks.specs.declared.refusals.Refused.{Refused}
 use Rattle.attribution.specs.Attribution.{direct, indirect, raised}
 use Rattle.attribution.specs.Reckoning.{process_count, output, direct_pool, indirect_pool, direct_left, indirect_left, total_left, entered, total_raised, uncredited}
 use Rattle.attribution.specs.Verdict.{reckoner_checks}
 use Rattle.sheet.specs.Most.{MOST}
-use Rattle.reckoning.specs.Refused.{refused_by}
 use Rattle.reckoning.specs.declared.Reckoning.{Reckoning}
 
 -- the figures of an accepted sheet; in every array the places of no process have 0
@@ -33,10 +33,11 @@ pub record FiguresOf (rs : List Record) (r : Reckoning) : Type 0 where
   -- its sign aside, below 2^63
   pub entered_small : nat_abs r.entered.0 < whole_grams
 
--- number and line, and the figures or none
-pub record Reckoned (sheet : List ℕ) (r : Reckoning) : Type 0 where
-  pub number : refusal_number r.refusal ≡ number_of (first_of (reckoner_checks limits sheet))
-  pub line_is : r.line ≡ line_of (first_of (reckoner_checks limits sheet))
-  pub passed : refusal_number r.refusal ≡ 0 → first_of (reckoner_checks limits sheet) ≡ accepted
-  pub figured : refusal_number r.refusal ≡ 0 → FiguresOf (records_of sheet) r
-  pub refused : (refusal_number r.refusal ≡ 0 → ⊥) → r ≡ refused_by r.refusal r.line
+-- no row applies: the figures
+pub record Figured (sheet : List ℕ) (r : Reckoning) : Type 0 where
+  pub passed : first_of (reckoner_checks limits sheet) ≡ accepted
+  pub figured : FiguresOf (records_of sheet) r
+
+-- the figures, or number and line of the first row that applies, and no figures
+abbrev pub Reckoned : (sheet : List ℕ) → Result Reckoning Refused → Type 0
+Reckoned sheet r = MatchResult r (Figured sheet) (λ e. first_of (reckoner_checks limits sheet) ≡ refused_by e)

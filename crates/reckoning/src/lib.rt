@@ -1,11 +1,7 @@
-// What the reckoner gives of a sheet: document 01, "Sheets sent back" and the figures of "The report".
+// What the reckoner gives of an accepted sheet: document 01, the figures of "The report".
 #![tactic(auto)]
 
-ghost use Rattle.std.specs.Prelude.{◌≡◌};
-ghost use Rattle.reckoning.specs.Refused.{refused_by};
-
-use checks::refusals::Refusal;
-use goods::{GramsByProcess, KilosByProcess, SIZE};
+use goods::{GramsByProcess, KilosByProcess};
 use quantity::{Grams, SignedGrams};
 
 // Grams of each process by its number, and the totals `left` and `raised` of the works.
@@ -24,42 +20,12 @@ pub struct Closing {
     pub total_raised: Grams,
 }
 
-// The reckoning of a sheet: the refusal and its line, or the figures of each process by its number and the totals.
+// The reckoning of an accepted sheet: the figures of each process by its number and the totals.
 #[derive(Clone, Copy)]
 pub struct Reckoning {
-    pub refusal: Refusal,
-    pub line: usize,
     pub count: usize,
     pub outputs: KilosByProcess,
     pub figures: Closing,
     pub entered: SignedGrams,
     pub uncredited: Grams,
-}
-
-// A refused sheet has no figures.
-pub fn refused_by(refusal: Refusal, line: usize) -> Reckoning
-    ensures { result ≡ refused_by refusal line }
-{
-    let none = GramsByProcess([0; SIZE]);
-    let outputs = KilosByProcess([0; SIZE]);
-    let figures = Closing {
-        direct: none,
-        indirect: none,
-        raised: none,
-        direct_pools: none,
-        indirect_pools: none,
-        direct_lefts: none,
-        indirect_lefts: none,
-        left: Grams(0),
-        total_raised: Grams(0),
-    };
-    Reckoning {
-        refusal: refusal,
-        line: line,
-        count: 0,
-        outputs: outputs,
-        figures: figures,
-        entered: SignedGrams(0),
-        uncredited: Grams(0),
-    }
 }

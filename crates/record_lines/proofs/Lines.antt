@@ -1,15 +1,15 @@
 -- The lines that lent records spell, record by record. Assumes nothing.
-use mathlib.Core.Path.{◌≡◌, sym, ap, ap₂, ◌∙◌}
-use mathlib.Core.List.{List, ◌∷◌, ◌++◌}
-use Prim.Native.Nat.{ℕ, ◌+◌, ◌-◌, min, ◌≤◌, ◌<◌}
+use mathlib.Core.Path.{◌≡◌, refl, sym, ap, ap₂, ◌∙◌}
+use mathlib.Core.List.{List, [], ◌∷◌, ◌++◌}
+use Prim.Native.Nat.{ℕ, ◌+◌, ◌-◌, min, ◌<◌}
 use native.Mathlib.Decide.{dec_le}
 use native.Mathlib.Nat.{lt_of_not-le}
 use native.Mathlib.Omega.{arith}
-use lib.ListN.{length, take, drop, length-append, length-take, length-drop, drop_of_length-le}
-use lib.Seq.{take_all}
+use lib.ListN.{length, take, drop, length-append, length-drop, drop_of_length-le}
+use lib.Seq.{take_all, take_at, drop_at}
 use Rattle.lines.specs.Lines.{LF}
 use Rattle.lent.specs.Lent.{RECORD, record_lent, spell_lent, sheet_lent}
-use Rattle.lent.proofs.Steps.{sheet_first}
+use Rattle.lent.proofs.Steps.{sheet_first, sheet_none}
 
 -- ---- the records of a sheet
 
@@ -28,13 +28,6 @@ record_words_lem words at stop h e =
       )
     ]
 
--- a record has at least its letter
-pub record_long : (words : List ℕ) (at stop : ℕ) → at < length words → stop ≡ min (at + RECORD) (length words)
-    → let part = take (stop - at) (drop at words) in (1 ≤ length part) × (length part ≤ RECORD)
-record_long words at stop h e =
-    let long : length (take (stop - at) (drop at words)) ≡ stop - at = simp (length-take, length-drop) (omega arith) in
-    (omega arith, omega arith)
-
 -- ONE RECORD MORE: the last one has the words that are there
 pub sheet_more : (words : List ℕ) (at stop : ℕ) → at < length words → stop ≡ min (at + RECORD) (length words)
     → sheet_lent (drop at words) ≡ spell_lent (record_lent (take (stop - at) (drop at words))) ++ (LF ∷ sheet_lent (drop stop words))
@@ -49,3 +42,19 @@ pub length_sheet : (words : List ℕ) (at stop : ℕ) → at < length words → 
 length_sheet words at stop h e =
     let line = spell_lent (record_lent (take (stop - at) (drop at words))) in
     ap length (sheet_more words at stop h e) ∙ length-append line (LF ∷ sheet_lent (drop stop words)) ∙ omega arith
+
+-- ---- the records of a sheet, one after the other
+
+pub sheet_none_left : (words : List ℕ) → length words ≡ 0 → sheet_lent words ≡ []
+sheet_none_left words e = sheet_none words 0 (omega arith)
+
+-- the bytes of the first record's line and of those after it
+pub chunk_more : (words first rest : List ℕ) (size : ℕ) → size ≡ RECORD
+    → (words ≡ first ++ rest) × (length first ≡ min size (length words)) × (0 < length words)
+    → length (sheet_lent words) ≡ length (spell_lent (record_lent first)) + 1 + length (sheet_lent rest)
+chunk_more words first rest size nine step =
+    let stop : length first ≡ min (0 + RECORD) (length words) = omega (arith, nine, step.1) in
+    let n : length first - 0 ≡ length first = omega arith in
+    length_sheet words 0 (length first) step.2 stop
+    ∙ ap₂ (λ (a b : List ℕ). length (spell_lent (record_lent a)) + 1 + length (sheet_lent b))
+    (ap₂ take n step.0 ∙ take_at first rest (length first) refl) (ap (drop (length first)) step.0 ∙ drop_at first rest (length first) refl)

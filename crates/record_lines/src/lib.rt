@@ -10,22 +10,24 @@ ghost use Rattle.sheet.specs.Ranges.{KeepsRanges};
 ghost use Rattle.sheet.specs.Verdict.{accepted, first_of, sheet_checks};
 ghost use Rattle.lent.specs.Lent.{RECORD, field_lent, record_lent, spell_lent, sheet_lent};
 
-use lent::{DASH_WORD, RECORD, field_count, line_length, record_stop};
+use lent::{DASH_WORD, RECORD, field_count, line_length};
 use quantity::limits::BYTES;
 
 // ---- fields
 
-// Writes a comma and a field before a place, and gives the place of the comma.
+// Writes a comma and a field before a place, and gives the place of the comma. Space and place stay apart: a struct that holds a lent space is no plainer
+// for two functions.
 fn put_field(space: &mut [u8], end: usize, word: u64) -> usize
     requires { (length (spell_field (field_lent word)) + 1 ≤ end) × (end ≤ length space.old) }
     ensures { Put space.old result (COMMA ∷ spell_field (field_lent word)) space.new end }
 {
-    if word == DASH_WORD {
-        space[end - 1] = b'-';
-        space[end - 2] = b',';
-        return end - 2;
-    }
-    let first = decimal::put_before(space, end, word);
+    let first = match word {
+        DASH_WORD => {
+            space[end - 1] = b'-';
+            end - 1
+        }
+        number => decimal::put_before(space, end, number),
+    };
     space[first - 1] = b',';
     first - 1
 }
@@ -42,10 +44,8 @@ fn put_record(space: &mut [u8], end: usize, words: &[u64]) -> usize
     let letter = words[0];
     let mut next = end - 1;
     space[next] = b'\n';
-    let mut i = field_count(letter);
-    while 0 < i {
-        next = put_field(space, next, words[i]);
-        i -= 1;
+    for word in words[1..=field_count(letter)].iter().rev() {
+        next = put_field(space, next, *word);
     }
     space[next - 1] = letter as u8;
     next - 1
@@ -54,18 +54,16 @@ fn put_record(space: &mut [u8], end: usize, words: &[u64]) -> usize
 // ---- sheets
 
 // How many bytes the sheet of lent records has; one more than a sheet may have stands for each length above.
+#[tactic(auto, using(crate::proofs::Lines::chunk_more, crate::proofs::Lines::sheet_none_left))]
 pub fn sheet_length(records: &[u64]) -> usize
     ensures { result ≡ min (length (sheet_lent records.now)) (limits.bytes + 1) }
 {
-    let mut length: usize = 0;
-    let mut at: usize = 0;
-    while at < records.len() {
-        let stop = record_stop(at, records.len());
-        length += line_length(&records[at..stop]);
+    let mut length = 0;
+    for record in records.chunks(RECORD) {
+        length += line_length(record);
         if BYTES < length {
             return BYTES + 1;
         }
-        at = stop;
     }
     length
 }
@@ -76,13 +74,13 @@ pub fn put_sheet(space: &mut [u8], records: &[u64], size: usize)
     requires size_value { (size ≡ length (sheet_lent records.now)) × (size ≤ length space.old) }
     ensures { Put space.old 0 (sheet_lent records.now) space.new size }
 {
+    // the full records and a last one that was cut short: divided once, since a division for each record is slow
+    let (full, cut) = records.split_at(records.len() / RECORD * RECORD);
     let mut next = size;
-    let mut stop = records.len();
-    // where the last record would end if it were full: divided once, since a division for each record is slow
-    let mut at = (stop + 8) / RECORD * RECORD;
-    while 0 < at {
-        at -= RECORD;
-        next = put_record(space, next, &records[at..stop]);
-        stop = at;
+    if !cut.is_empty() {
+        next = put_record(space, next, cut);
+    }
+    for record in full.rchunks(RECORD) {
+        next = put_record(space, next, record);
     }
 }

@@ -1,12 +1,10 @@
 -- For the code only: a line's fields as the code reads them. Laws join them to Records.
-use Rattle.std.specs.Prelude.{◌≡◌, false, cond, List, map, ℕ, ◌+◌, ◌≤◌, ltb, length, set, replicate}
+use Rattle.std.specs.Prelude.{◌≡◌, cond, List, map, ℕ, ◌+◌, ◌≤◌, ltb, length, set, replicate}
 use Rattle.std.proofs.lemmas.List.Edits.{sets}
 use Rattle.lines.specs.Records.{field_of, record_of}
 use Rattle.lines.specs.Words.{WORDS, word, line_at}
 use Rattle.lines.specs.declared.LineRead.{LineRead}
 use Rattle.heads.specs.Left.{field_end, next_fields, last_end}
-use Rattle.heads.specs.declared.Head.{Head}
-use Rattle.steps.specs.declared.Step.{Step}
 
 -- eight words with this one at k, where k is below eight
 abbrev pub stored : (words : List ℕ) → (k : ℕ) → (word : ℕ) → List ℕ
@@ -30,7 +28,3 @@ pub record ReadSoFar (sheet : List ℕ) (start : ℕ) (l : LineRead) : Type 0 wh
   pub least : start ≤ l.end
   pub most : l.end ≤ length sheet
   pub fits : l.count ≤ l.end
-
--- no field is tried yet
-abbrev pub no_step : Head → Step
-no_step h = record { word = 0; count = 0; end = h.end; more = h.more; done = false }

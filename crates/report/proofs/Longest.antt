@@ -15,7 +15,8 @@ use Rattle.decimal.proofs.Widths.{nineteen}
 use Rattle.quantity.specs.Limits.{Limits, whole_grams}
 use Rattle.lines.specs.Lines.{Line, lines_of}
 use Rattle.lines.specs.Records.{Record, record_of, records_of}
-use Rattle.sheet.specs.Kinds.{Process, is}
+use Rattle.sheet.specs.Kinds.{is}
+use Rattle.sheet.specs.declared.Kind.TheVariants.{Process}
 use Rattle.sheet.specs.Refusals.{sum_of}
 use Rattle.sheet.specs.Verdict.{line_checks, lines_checks, sheet_checks}
 use Rattle.sheet.specs.Verdict.{All, Passes}

@@ -1,17 +1,18 @@
 -- The bytes of the report line by line, and how long they are. Assumes nothing.
 use mathlib.Core.Path.{◌≡◌, refl, sym, ap, ◌∙◌}
 use mathlib.Core.List.{List, [], ◌∷◌, ◌++◌, map, append_assoc}
-use Prim.Native.Nat.{ℕ, zero, suc, ◌+◌, ◌/◌, ◌%◌, ◌≤◌, ◌<◌}
+use Prim.Native.Nat.{ℕ, zero, suc, ◌+◌, ◌-◌, ◌/◌, ◌%◌, ◌≤◌, ◌<◌}
 use native.Mathlib.Numerals.{add-one}
 use native.Mathlib.Decide.{dec_le}
 use native.Mathlib.Omega.{arith}
-use lib.ListN.{length, take, length-append}
+use lib.ListN.{length, length-append}
 use Rattle.decimal.specs.Spelling.{spelling}
-use Rattle.goods.specs.ByProcess.{figures}
+use Rattle.decimal.specs.Writing.{Put}
+use Rattle.decimal.proofs.Writing.{then}
 use Rattle.report.specs.Report.{report_row, report_of}
 use Rattle.report.specs.Spelling.{Figure, whole, minus, thousandths, three_digits, spell_figure, spell_figures, ReportLine, report_line}
 use Rattle.report.specs.Spelling.{spell_lines, row_line, total_line, report_bytes}
-use Rattle.figures.specs.Figures.{FIELDS, three, spelt, tailed, line, held}
+use Rattle.figures.specs.Figures.{three, spelt, tailed, line, held}
 use Rattle.figures.proofs.Widths.{length_line}
 use Rattle.reckoning.specs.declared.Reckoning.{Reckoning}
 use Rattle.rows.specs.Held.{row_held, rows_held, last_held, reckoning_held, fields_of, row_fields, rows_bytes, bytes_held}
@@ -33,27 +34,6 @@ tailed_held : (fs : List Figure) → tailed (map held fs) ≡ spell_figures fs
 unfolding tailed spell_figures
 tailed_held [] = refl
 tailed_held (f ∷ fs) = rw (held_spelt f, tailed_held fs)
-
--- ---- the figures of a process as the code reads them
-
-pub row_same : (r : Reckoning) (k output direct indirect raised direct_pool indirect_pool direct_left indirect_left : ℕ)
-    → output ≡ figures r.outputs.0 k → direct ≡ figures r.figures.direct.0 k → indirect ≡ figures r.figures.indirect.0 k
-    → raised ≡ figures r.figures.raised.0 k
-    → direct_pool ≡ figures r.figures.direct_pools.0 k → indirect_pool ≡ figures r.figures.indirect_pools.0 k
-    → direct_left ≡ figures r.figures.direct_lefts.0 k → indirect_left ≡ figures r.figures.indirect_lefts.0 k
-    → record {
-      process = k;
-      output = output;
-      direct = direct;
-      indirect = indirect;
-      raised = raised;
-      direct_pool = direct_pool;
-      indirect_pool = indirect_pool;
-      direct_left = direct_left;
-      indirect_left = indirect_left;
-    } ≡ row_held r k
-unfolding row_held
-row_same r k output direct indirect raised direct_pool indirect_pool direct_left indirect_left a b c d e f g h = rw (a, b, c, d, e, f, g, h)
 
 -- ---- lines
 
@@ -99,10 +79,6 @@ report_parts r =
     lines_append (map row_line (map report_row (rows_held r r.count))) (total_line (totals_said (last_held r)) ∷ [])
     ∙ ap (λ (l : List ℕ). spell_lines (map row_line (map report_row (rows_held r r.count))) ++ l) (line_is 84 _)
 
-pub row_whole : (r : Reckoning) (k : ℕ) → take FIELDS (row_fields r k) ≡ row_fields r k
-unfolding fields_of row_line
-row_whole r k = refl
-
 -- ---- how long
 
 pub rows_long : (r : Reckoning) (k : ℕ) → length (rows_bytes r (k + 1)) ≡ length (rows_bytes r k) + (length (tailed (row_fields r (k + 1))) + 2)
@@ -125,3 +101,22 @@ rows_within r i (suc n) h =
           let s : n + 1 ≡ suc n = omega arith in
           omega (arith, rows_within r i n (let q : i ≤ n = omega arith in q), rw s at (rows_long r n))
     ]
+
+-- ---- one line more
+
+module _ (r : Reckoning) (space m : List ℕ) (at k : ℕ) (some : 1 ≤ k) (one : k ≤ r.count) (all : length (bytes_held r) ≤ length space)
+    (put : Put space 0 (rows_bytes r (k - 1)) m at) where
+  next : k - 1 + 1 ≡ k
+  next = omega arith
+
+  -- it has its room
+  pub row_room : at + (length (tailed (row_fields r k)) + 2) ≤ length space
+  row_room = omega (arith, put.place, rw next at (rows_long r (k - 1)), rows_within r k r.count one, report_long r)
+
+  -- it stands behind the lines before it
+  pub row_put : (n : List ℕ) (j : ℕ) → Put m at (line 82 (row_fields r k)) n j → Put space 0 (rows_bytes r k) n j
+  row_put n j line_put =
+      let before : k - 1 ≤ r.count = omega arith in
+      let room : 0 + length (rows_bytes r (k - 1)) ≤ length space = omega (arith, rows_within r (k - 1) r.count before, report_long r) in
+      let more = rw next at (rows_more r (k - 1)) in
+      rw more (then room put line_put)

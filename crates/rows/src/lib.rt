@@ -5,18 +5,20 @@ ghost use Rattle.std.specs.Prelude.{◌≡◌, ◌+◌, ◌≤◌, ◌<◌, leng
 ghost use Rattle.decimal.specs.Writing.{Put};
 ghost use Rattle.report.specs.Report.{specific};
 ghost use Rattle.report.specs.Spelling.{thousandths};
-ghost use Rattle.figures.specs.Figures.{FIELDS, held};
-ghost use Rattle.goods.specs.ByProcess.{SIZE, figures};
+ghost use Rattle.figures.specs.Figures.{held};
 ghost use Rattle.sheet.specs.Most.{MOST};
 ghost use Rattle.rows.specs.Held.{CanBeWritten, row_said, fields_of, rows_bytes, bytes_held};
 
-use figures::{FIELDS, Figure, put_line};
-use goods::SIZE;
+use figures::{Figure, put_line};
 use last_line::{LastLine, put_totals};
 use quantity::{Grams, Kilos};
 use reckoning::Reckoning;
 
+// As many fields as a process's line has behind its letter.
+const FIELDS: usize = 10;
+
 // Specific embedded emissions: pool/output in g/kg, three digits after the dot, cut down.
+#[tactic(auto, using(crate::proofs::Figures::specific_parted))]
 fn specific_figure(pool: Grams, output: Kilos) -> Figure
     requires { (1 ≤ output.0) × (output.0 ≤ MOST) }
     ensures { result ≡ held (thousandths (specific pool.0 output.0)) }
@@ -40,23 +42,8 @@ pub struct Row {
     pub indirect_left: Grams,
 }
 
-// The grams of process k, from a column of grams.
-fn grams_of(column: &[u64; SIZE], k: usize) -> Grams
-    requires { k < SIZE }
-    ensures { result.0 ≡ figures column.now k }
-{
-    Grams(column[k])
-}
-
-// The kilograms of process k, from a column of kilograms.
-fn kilos_of(column: &[u64; SIZE], k: usize) -> Kilos
-    requires { k < SIZE }
-    ensures { result.0 ≡ figures column.now k }
-{
-    Kilos(column[k])
-}
-
 // The fields of a process's line.
+#[tactic(auto, unfolding(crate::specs::Held::fields_of, report::specs::Spelling::row_line))]
 fn row_fields(row: Row) -> [Figure; FIELDS]
     requires { (1 ≤ row.output.0) × (row.output.0 ≤ MOST) }
     ensures { result ≡ fields_of (row_said row) }
@@ -83,24 +70,20 @@ fn put_rows(space: &mut [u8], r: Reckoning) -> usize
     requires { (CanBeWritten r) × (length (bytes_held r) ≤ length space.old) }
     ensures { Put space.old 0 (rows_bytes r r.count) space.new result }
 {
-    let f = r.figures;
-    let outputs = r.outputs;
     let mut at: usize = 0;
-    let mut k: usize = 0;
-    while k < r.count {
-        k += 1;
+    for k in 1..=r.count {
         let row = Row {
             process: k,
-            output: kilos_of(&outputs.0, k),
-            direct: grams_of(&f.direct.0, k),
-            indirect: grams_of(&f.indirect.0, k),
-            raised: grams_of(&f.raised.0, k),
-            direct_pool: grams_of(&f.direct_pools.0, k),
-            indirect_pool: grams_of(&f.indirect_pools.0, k),
-            direct_left: grams_of(&f.direct_lefts.0, k),
-            indirect_left: grams_of(&f.indirect_lefts.0, k),
+            output: Kilos(r.outputs.0[k]),
+            direct: Grams(r.figures.direct.0[k]),
+            indirect: Grams(r.figures.indirect.0[k]),
+            raised: Grams(r.figures.raised.0[k]),
+            direct_pool: Grams(r.figures.direct_pools.0[k]),
+            indirect_pool: Grams(r.figures.indirect_pools.0[k]),
+            direct_left: Grams(r.figures.direct_lefts.0[k]),
+            indirect_left: Grams(r.figures.indirect_lefts.0[k]),
         };
-        at = put_line(space, at, b'R', row_fields(row), FIELDS);
+        at = put_line(space, at, b'R', &row_fields(row));
     }
     at
 }
@@ -111,16 +94,11 @@ pub fn put_report(space: &mut [u8], r: Reckoning) -> usize
     ensures { Put space.old 0 (bytes_held r) space.new result }
 {
     let at = put_rows(space, r);
-    let figures = r.figures;
-    let left = figures.left;
-    let entered = r.entered;
-    let raised = figures.total_raised;
-    let uncredited = r.uncredited;
     let last = LastLine {
-        left,
-        entered,
-        raised,
-        uncredited,
+        left: r.figures.left,
+        entered: r.entered,
+        raised: r.figures.total_raised,
+        uncredited: r.uncredited,
     };
     put_totals(space, at, last)
 }

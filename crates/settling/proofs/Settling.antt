@@ -14,11 +14,12 @@ use Rattle.quantity.specs.Limits.{whole_grams}
 use Rattle.goods.specs.Sums.{sum_to}
 use Rattle.goods.specs.Goods.{takers, portion_of, pool_of, left_of}
 use Rattle.goods.specs.ByProcess.{SIZE, figures, NoneOutside, Column}
-use Rattle.goods.specs.Settling.{pairs, CanPassOn, PassedOn, Settleable, pool_held, PoolsSettled}
+use Rattle.goods.specs.Settling.{pairs, CanPassOn, PassedOn, any_taker, Settleable, pool_held, PoolsSettled}
 use Rattle.goods.proofs.Sums.{sum_suc, sum_mono}
 use Rattle.goods.proofs.Portions.{portion_is}
 use Rattle.goods.proofs.Pools.{pool_is, pool_le}
 use Rattle.passing.proofs.Passing.{no_portion}
+use Rattle.settling.proofs.Takers.{none_passed}
 
 zeros : (n k : ℕ) → ◌≡◌ {A = ℕ} (get_or (replicate n 0) k 0) 0
 zeros zero k = refl
@@ -138,6 +139,10 @@ module _ {n : ℕ} {output : ℕ → ℕ} {kilos : ℕ → ℕ → ℕ} {own : �
   pub settling_next : {j : ℕ} {after : List ℕ} {rest : ℕ} → j ≡ suc i → i < n → j < SIZE
       → PassedOn n j (output j) (kilos j) pools after rest → Settling n output kilos own j after (set lefts j rest)
   settling_next e h u p = rw e (passed h (rw e at u) (rw e at p))
+
+  -- a process with no takers
+  pub settling_kept : {j : ℕ} → j ≡ suc i → i < n → j < SIZE → any_taker (kilos j) j n ≡ false → Settling n output kilos own j pools (set lefts j (get_or pools j 0))
+  settling_kept e h u none = settling_next e h u (none_passed (settling_can e h) none)
 
 -- all processes have had their turn
 module _ {outputs kilos before pools lefts : List ℕ} {n i : ℕ} (s : Settleable n (figures outputs) (pairs kilos) (figures before))

@@ -1,17 +1,26 @@
 -- Whether a process has takers, and that a good that goes to none leaves every pool as it is. Assumes nothing.
-use mathlib.Core.Path.{◌≡◌, refl}
-use mathlib.Core.Bool.{Bool, true, false, ◌||◌, ◌&&◌}
+use mathlib.Core.Path.{◌≡◌, refl, sym, ◌∙◌}
+use mathlib.Core.Bool.{Bool, true, false, ◌||◌}
 use mathlib.Core.List.{List}
 use Prim.Native.Nat.{ℕ, zero, suc, ◌+◌, ◌-◌, ◌≤◌, ◌<◌}
-use native.Mathlib.Decide.{le_ind, dec_le}
-use native.Mathlib.Nat.{lt_of_not-le}
+use native.Mathlib.Decide.{dec_le}
+use native.Mathlib.Nat.{lt_of_not-le, le_refl, add-zero}
 use native.Mathlib.Numerals.{add-one}
 use native.Mathlib.Omega.{arith}
 use borrow.Author.Tests.{lt-ltb, le-ltb, ltb-false, eqb-true, eqb-false}
 use lib.Dec.{eqb, ltb}
 use lib.ListN.{get_or}
+use Rattle.std.specs.List.{list_any, range_with_len}
 use Rattle.goods.specs.Settling.{CanPassOn, PassedOn, any_taker}
 use Rattle.passing.proofs.Passing.{passing_none, passing_all}
+
+or_false : (a : Bool) → (a || false) ≡ a
+or_false false = refl
+or_false true = refl
+
+or_assoc : (a b c : Bool) → ((a || b) || c) ≡ a || (b || c)
+or_assoc false b c = refl
+or_assoc true b c = refl
 
 -- neither of two holds
 none_first : (a b : Bool) → (a || b) ≡ false → a ≡ false
@@ -30,30 +39,22 @@ module _ (m : ℕ → ℕ) (from : ℕ) where
   no_taker zero h = refl
   no_taker (suc n) h = rw (no_taker n (omega arith), le-ltb from (suc n) h)
 
-  -- the next one takes nothing
-  pub none_next : (to : ℕ) → any_taker m from to ≡ false → m (to + 1) ≡ 0 → any_taker m from (to + 1) ≡ false
+  -- with the next process
+  with_next : (k : ℕ) → from ≤ k → (rest : Bool) → any_taker m from (suc k) || rest ≡ any_taker m from k || (ltb 0 (m (suc k)) || rest)
   unfolding any_taker
-  none_next to e z = rw (add-one to) (rw (e, rw (add-one to) at z) (go (ltb from (suc to))))
-    where
-      go : (b : Bool) → (false || (b && ltb 0 0)) ≡ false
-      go true = refl
-      go false = refl
+  with_next k h rest = rw (lt-ltb from (suc k) (omega arith)) (or_assoc (any_taker m from k) (ltb 0 (m (suc k))) rest)
 
-  taker_kept : (n : ℕ) → any_taker m from n ≡ true → any_taker m from (suc n) ≡ true
-  unfolding any_taker
-  taker_kept n e = rw e
+  -- one process after the other, behind the first k
+  taken_over : (n k : ℕ) → from ≤ k → any_taker m from (k + n) ≡ any_taker m from k || list_any (λ to. ltb 0 (m to)) (range_with_len (k + 1) n)
+  taken_over zero k h = rw add-zero (sym (or_false (any_taker m from k)))
+  taken_over (suc n) k h =
+      let e : k + suc n ≡ suc k + n = omega arith in
+      rw (e, add-one) (taken_over n (suc k) (omega arith) ∙ with_next k h (list_any (λ to. ltb 0 (m to)) (range_with_len (suc k + 1) n)))
 
-  -- the next one takes kilograms
-  pub taker_found : (to n : ℕ) → from ≤ to → to + 1 ≤ n → 0 < m (to + 1) → any_taker m from n ≡ true
-  unfolding any_taker
-  taker_found to n h l some =
-      let first : any_taker m from (suc to) ≡ true =
-      rw (lt-ltb from (suc to) (omega arith), lt-ltb 0 (m (suc to)) (rw (add-one to) at some)) (go (any_taker m from to)) in
-      le_ind (λ (k : ℕ). any_taker m from k ≡ true) first (λ k u e. taker_kept k e) n (rw (add-one to) at l)
-    where
-      go : (b : Bool) → (b || (true && true)) ≡ true
-      go true = refl
-      go false = refl
+  pub takers_over : (n : ℕ) → from ≤ n → list_any (λ to. ltb 0 (m to)) (range_with_len (from + 1) (n - from)) ≡ any_taker m from n
+  takers_over n h =
+      let all : from + (n - from) ≡ n = omega arith in
+      sym (rw (all, no_taker from (le_refl from)) at (taken_over (n - from) from (le_refl from)))
 
   -- none takes anything
   none_takes : (n : ℕ) → any_taker m from n ≡ false → (j : ℕ) → from < j → j ≤ n → m j ≡ 0

@@ -1,4 +1,4 @@
--- For the code only: what `with_bit`, `quotients` and `portions` ask of their arguments.
+-- For the code only: what a share keeps, and what `with_bit` asks of its arguments.
 use Rattle.std.specs.Prelude.{ℕ, ◌+◌, ◌*◌, ◌^◌, ◌≤◌, ◌<◌}
 
 -- a part of a whole: the whole is at most 2^61

@@ -11,7 +11,9 @@ use Rattle.decimal.proofs.Bools.{or_neither}
 use Rattle.lines.specs.Lines.{Line}
 use Rattle.lines.specs.Records.{Record, record_of, field}
 use Rattle.quantity.specs.Limits.{Limits}
-use Rattle.sheet.specs.Kinds.{Kind, Process, OwnGood, kind, is, Rule, exactly, method_rules, process_number, rules}
+use Rattle.sheet.specs.Kinds.{kind, is, Rule, exactly, method_rules, process_number, rules}
+use Rattle.sheet.specs.declared.Kind.{Kind}
+use Rattle.sheet.specs.declared.Kind.TheVariants.{Process, OwnGood}
 use Rattle.sheet.specs.Refusals.{any_of, sum_of, process, from, to, output_in, taken_in, has_process}
 use Rattle.sheet.specs.Verdict.{accepted, first_of, line_checks}
 use Rattle.sheet.proofs.First.{accepted_passes}

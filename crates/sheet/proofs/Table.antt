@@ -4,7 +4,7 @@ use mathlib.Core.Bool.{Bool, true, false, cond, ◌&&◌, ◌||◌, not}
 use mathlib.Core.List.{List, [], ◌∷◌}
 use Prim.Native.Nat.{ℕ, zero, suc, ◌≤◌, ◌<◌}
 use native.Mathlib.Omega.{arith}
-use borrow.Author.Tests.{eq-eqb, eqb-true, eqb-false, leb-true, lt-ltb, not-true}
+use borrow.Author.Tests.{eq-eqb, ne_eqb, eqb-true, eqb-false, leb-true, lt-ltb, not-true}
 use lib.Dec.{eqb, leb, ltb}
 use lib.ListN.{length, get_or}
 use Rattle.decimal.proofs.Bools.{never, and_both}
@@ -12,8 +12,10 @@ use Rattle.lines.specs.Records.{Field, number, dash, other, Record}
 use Rattle.lines.specs.Words.{WORDS, CAP}
 use Rattle.lines.specs.Spelling.{is_letter}
 use Rattle.quantity.specs.Limits.{Limits}
-use Rattle.sheet.specs.Kinds.{Kind, Process, SourceStream, MeasurableHeat, WasteGas, Electricity, BoughtPrecursor}
-use Rattle.sheet.specs.Kinds.{OwnGood, Unknown, letter, kinds, kind_among, kind_of, kind, is, Rule, exactly}
+use Rattle.sheet.specs.declared.Kind.{Kind}
+use Rattle.sheet.specs.declared.Kind.TheVariants.{Process, SourceStream, MeasurableHeat, WasteGas, Electricity, BoughtPrecursor}
+use Rattle.sheet.specs.Kinds.{letter, kinds, kind_among, kind_of, kind, is, Rule, exactly}
+use Rattle.sheet.specs.declared.Kind.TheVariants.{OwnGood, Unknown}
 use Rattle.sheet.specs.Kinds.{combustion, process_emission, mass_balance, no_method, method_rules, rules}
 use Rattle.sheet.specs.Verdict.{All}
 
@@ -174,3 +176,11 @@ early_plain_lem rs f k h = go k h (each_passes (plain rs) (0 ∷ 1 ∷ 2 ∷ 3 �
 pub rules_fit : (limits : Limits) → limits.processes < CAP → (k : Kind) (f : Field) → FitsWords (rules limits k (method_rules f))
 unfolding rules all_of
 rules_fit limits small k f = fits _ (every_row fits_words limits (simp (lt-ltb limits.processes CAP small)) k f)
+
+-- a byte of a known kind is its letter
+pub letter_of : (byte : ℕ) (k : Kind) → eqb (letter k) (letter Unknown) ≡ false → kind_of byte ≡ k → byte ≡ letter k
+letter_of byte k known e = eqb-true byte (letter k) (sym (letter_is byte k known) ∙ eq-eqb _ _ (ap letter e))
+
+-- and a byte of another kind is not
+pub no_letter_of : (byte : ℕ) (k : Kind) → eqb (letter k) (letter Unknown) ≡ false → (kind_of byte ≡ k → ⊥) → eqb byte (letter k) ≡ false
+no_letter_of byte k known another = ne_eqb byte (letter k) (λ e. another (ap kind_of e ∙ kind_letter k))

@@ -3,19 +3,11 @@
 use Rattle.std.specs.Prelude.{Bool, true, false, cond, ◌&&◌, not, List, [], ◌∷◌, ℕ, eqb, ltb, leb}
 use Rattle.quantity.specs.Limits.{Limits}
 use Rattle.lines.specs.Records.{Field, number, dash, other, Record, field}
+-- the seven kinds of lines, and a line whose first field is none of their letters
+use Rattle.sheet.specs.declared.Kind.{Kind}
+use Rattle.sheet.specs.declared.Kind.TheVariants.{Process, SourceStream, MeasurableHeat, WasteGas, Electricity, BoughtPrecursor, OwnGood, Unknown}
 
 -- ---- kinds and their letters
-
--- the seven kinds of lines, and a line whose first field is none of their letters
-pub data Kind : Type 0 where
-  Process : Kind
-  SourceStream : Kind
-  MeasurableHeat : Kind
-  WasteGas : Kind
-  Electricity : Kind
-  BoughtPrecursor : Kind
-  OwnGood : Kind
-  Unknown : Kind
 
 abbrev pub letter : Kind → ℕ
 letter Process = 80

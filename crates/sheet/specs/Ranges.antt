@@ -2,7 +2,8 @@
 use Rattle.std.specs.Prelude.{◌≡◌, false, List, [], ◌∷◌}
 use Rattle.quantity.specs.Limits.{Limits}
 use Rattle.lines.specs.Records.{Field, Record}
-use Rattle.sheet.specs.Kinds.{Unknown, is, Rule, rules_of}
+use Rattle.sheet.specs.Kinds.{is, Rule, rules_of}
+use Rattle.sheet.specs.declared.Kind.TheVariants.{Unknown}
 use Rattle.sheet.specs.Refusals.{not_number, out_of_range}
 
 -- as many fields as rules, and each keeps its rule

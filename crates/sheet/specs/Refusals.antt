@@ -4,7 +4,8 @@ use Rattle.std.specs.Prelude.{Bool, true, false, cond, ◌&&◌, ◌||◌, not, 
 use Rattle.quantity.specs.Limits.{Limits}
 use Rattle.lines.specs.Lines.{Line}
 use Rattle.lines.specs.Records.{Field, number, dash, other, Record, field, number_at}
-use Rattle.sheet.specs.Kinds.{Process, SourceStream, OwnGood, kind, is, Rule, Table, named_fields, ends_of}
+use Rattle.sheet.specs.Kinds.{kind, is, Rule, Table, named_fields, ends_of}
+use Rattle.sheet.specs.declared.Kind.TheVariants.{Process, SourceStream, OwnGood}
 
 -- ---- what the lines above say
 

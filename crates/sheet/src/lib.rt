@@ -1,2 +1,36 @@
 // Document 01, "The sheet" and "Sheets sent back". The definitions are in specs/.
-#![tactic(auto)]
+#![tactic(auto, unfolding(crate::specs::Kinds::kind_of, crate::specs::Kinds::kind_among))]
+
+ghost use Rattle.std.specs.Prelude.{◌≡◌};
+ghost use Rattle.sheet.specs.Kinds.{kind_of};
+
+// The seven kinds of lines, and a line whose first field is none of their letters.
+#[derive(Clone, Copy, Debug, PartialEq, Eq)]
+pub enum Kind {
+    Process,
+    SourceStream,
+    MeasurableHeat,
+    WasteGas,
+    Electricity,
+    BoughtPrecursor,
+    OwnGood,
+    Unknown,
+}
+
+// The kind whose letter is this byte.
+impl From<u8> for Kind {
+    ghost from_gives = { λ byte kind. kind ≡ kind_of byte };
+
+    fn from(byte: u8) -> Kind {
+        match byte {
+            b'P' => Kind::Process,
+            b'S' => Kind::SourceStream,
+            b'H' => Kind::MeasurableHeat,
+            b'W' => Kind::WasteGas,
+            b'E' => Kind::Electricity,
+            b'B' => Kind::BoughtPrecursor,
+            b'G' => Kind::OwnGood,
+            _ => Kind::Unknown,
+        }
+    }
+}

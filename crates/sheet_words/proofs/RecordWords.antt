@@ -2,11 +2,11 @@
 use mathlib.Core.Path.{◌≡◌, refl, ap, ap₂, ◌∙◌}
 use mathlib.Core.List.{List, [], ◌∷◌, ◌++◌, map, map-append}
 use Prim.Native.Nat.{ℕ, zero, suc, ◌+◌, ◌-◌, min, ◌≤◌}
-use native.Mathlib.Numerals.{unary_clauses}
 use native.Mathlib.Omega.{arith}
 use borrow.Author.Tests.{ne_eqb}
 use lib.ListN.{length, drop, replicate, length-map}
 use lib.Seq.{sets-eq}
+use Rattle.std.proofs.lemmas.List.{drop-replicate}
 use Rattle.quantity.specs.Limits.{limits}
 use Rattle.lines.specs.Records.{Field, number, dash, other, Record}
 use Rattle.lines.specs.Words.{WORDS, CAP, DASH, word, words}
@@ -40,11 +40,6 @@ spare_words : (n : ℕ) → map as_lent (zeros n) ≡ zeros n
 spare_words zero = refl
 spare_words (suc n) = ap (λ (ws : List ℕ). 0 ∷ ws) (spare_words n)
 
-spare_left : (n k : ℕ) → drop k (zeros n) ≡ zeros (n - k)
-spare_left n zero = simp unary_clauses
-spare_left zero (suc k) = let e : 0 ≡ 0 - suc k = omega arith in ap zeros e
-spare_left (suc n) (suc k) = simp unary_clauses (spare_left n k)
-
 -- ---- all eight
 
 all_words : (fs : List Field) → length fs ≤ WORDS → All OwnWord fs → map as_lent (words fs) ≡ map word_lent fs ++ zeros (WORDS - length fs)
@@ -52,7 +47,7 @@ unfolding words
 all_words fs few own =
     let held = sets-eq (map word fs) (zeros WORDS) 0 (omega (arith, length-map fs word)) in
     let count : 0 + length (map word fs) ≡ length fs = omega (arith, length-map fs word) in
-    let left = ap (λ (k : ℕ). drop k (zeros WORDS)) count ∙ spare_left WORDS (length fs) in
+    let left = ap (λ (k : ℕ). drop k (zeros WORDS)) count ∙ drop-replicate (length fs) WORDS 0 in
     ap (map as_lent) (held ∙ ap (λ (ws : List ℕ). map word fs ++ ws) left)
     ∙ map-append as_lent (map word fs) (zeros (WORDS - length fs))
     ∙ ap₂ (λ (a b : List ℕ). a ++ b) (field_words_lem fs own) (spare_words (WORDS - length fs))

@@ -10,17 +10,17 @@ ghost use Rattle.lent.specs.Lent.{RECORD, words_of};
 ghost use Rattle.sheet_words.specs.LineWords.{as_lent, line_words};
 
 use lent::{DASH_WORD, RECORD};
-use lines::{DASH, LineRead, WORDS};
+use lines::{DASH, LineRead};
 use records::read_line;
 
 // A field's word as a lent word.
 fn as_lent(word: u64) -> u64
     ensures { result ≡ as_lent word }
 {
-    if word == DASH {
-        return DASH_WORD;
+    match word {
+        DASH => DASH_WORD,
+        number => number,
     }
-    word
 }
 
 // Puts the words of a line that was read at a place of a lent list: its letter, then eight fields, `-` as DASH_WORD, 0 for those that the line does
@@ -29,13 +29,10 @@ fn put_words(list: &mut [u64], at: usize, l: LineRead) -> usize
     requires { at + RECORD ≤ length list.old }
     ensures { Put list.old at (line_words l) list.new result }
 {
-    let words = l.words;
-    list[at] = l.letter as u64;
+    list[at] = u64::from(l.letter);
     let first = at + 1;
-    let mut k: usize = 0;
-    while k < WORDS {
-        list[first + k] = as_lent(words[k]);
-        k += 1;
+    for (k, word) in l.words.iter().enumerate() {
+        list[first + k] = as_lent(*word);
     }
     at + RECORD
 }
@@ -46,8 +43,9 @@ pub fn put_records(list: &mut [u64], sheet: &[u8]) -> usize
     requires sheet_in_bounds { length (words_of (records_of sheet.now)) ≤ length list.old }
     ensures { Put list.old 0 (words_of (records_of sheet.now)) list.new result }
 {
-    let mut place: usize = 0;
-    let mut at: usize = 0;
+    let mut place = 0;
+    let mut at = 0;
+    // no range or iterator gives the places: each line that is read says where the next one starts
     while at < sheet.len() {
         let l = read_line(sheet, at);
         place = put_words(list, place, l);

@@ -15,23 +15,31 @@ use Rattle.decimal.proofs.Bools.{and_both, never}
 use Rattle.lines.specs.Lines.{LF, COMMA}
 use Rattle.lines.specs.Records.{number, other, field_of}
 use Rattle.lines.specs.Words.{CAP, DASH, OTHER, word}
-use Rattle.fields.specs.Scan.{field_length, field_at, said_of, word_of, digits_said, digits_from}
+use Rattle.std.specs.Prelude.{Option, Some, None}
+use Rattle.fields.specs.Scan.{field_length, field_at, said_of, word_of, said_by, digits_from}
 use Rattle.short_fields.specs.Short.{is_leading, SHORT, DigitsAt, ended_word, is_short, short_at}
 use Rattle.short_fields.specs.declared.Digits.{Digits}
-use Rattle.short_fields.specs.declared.ShortRead.{ShortRead}
-use Rattle.short_fields.specs.declared.ShortRead.TheVariants.{Next, Last, Another}
+use Rattle.fields.specs.declared.Stop.{Stop as Behind}
+use Rattle.fields.specs.declared.Stop.TheVariants.{Comma, LineEnd}
+use Rattle.short_fields.specs.declared.ShortField.{ShortField}
 use Rattle.fields.proofs.Scanning.{Stop, field_stop, field_one, field_left, grows, digits_none, said_one, said_many, word_said}
 
 pub leading_range : (b : ℕ) → is_leading b ≡ true → (49 ≤ b) × (b ≤ 57)
 leading_range b h = let q = and_both (ltb 48 b) (leb b 57) h in (let l = ltb-true 48 b q.0 in omega arith, leb-true b 57 q.1)
 
+pub leading_in : (b : ℕ) → 49 ≤ b → b ≤ 57 → is_leading b ≡ true
+leading_in b l g = simp (lt-ltb 48 b (omega arith), le-leb b 57 g)
+
+pub digit_in : (b : ℕ) → 48 ≤ b → b ≤ 57 → is_digit b ≡ true
+digit_in b l g = simp (le-leb 48 b l, le-leb b 57 g)
+
 pub leading_digit : (b : ℕ) → is_leading b ≡ true → is_digit b ≡ true
-leading_digit b h = let r = leading_range b h in simp (le-leb 48 b (omega arith), le-leb b 57 r.1)
+leading_digit b h = let r = leading_range b h in digit_in b (omega arith) r.1
 
 -- ---- a field by its first byte
 
 -- digits from `1` on are a number
-said_leading : (f : List ℕ) → is_leading (get_or f 0 0) ≡ true → said_of (field_of f) ≡ digits_from true 0 f
+said_leading : (f : List ℕ) → is_leading (get_or f 0 0) ≡ true → said_of (field_of f) ≡ said_by (digits_from (Some 0) f)
 said_leading [] h = absurd (never h)
 said_leading (b ∷ []) h = let r = leading_range b h in said_one (b ∷ []) refl (λ e. omega arith)
 said_leading (b ∷ c ∷ f) h = let r = leading_range b h in said_many (b ∷ c ∷ f) (omega arith) (λ e. omega arith)
@@ -75,9 +83,9 @@ abbrev ending : (s : List ℕ) → (start : ℕ) → ℕ
 ending s start = start + field_length (drop start s)
 
 -- no other field is read
-other_short : (s : List ℕ) (start : ℕ) → is_short (here s start) ≡ false → Another ≡ short_at s start
+other_short : (s : List ℕ) (start : ℕ) → is_short (here s start) ≡ false → None ≡ short_at s start
 unfolding short_at
-other_short s start e = ap (λ (t : Bool). cond t (ended_word s (here s start) (ending s start)) Another) (sym e)
+other_short s start e = ap (λ (t : Bool). cond t (ended_word s (here s start) (ending s start)) None) (sym e)
 
 module _ (s : List ℕ) (start said end : ℕ) where
   abbrev b : ℕ
@@ -87,9 +95,9 @@ module _ (s : List ℕ) (start said end : ℕ) where
   unfolding short_at
   stop_short e f t =
       ap₂ (ended_word s) e f
-      ∙ ap (λ (t : Bool). cond t (ended_word s (here s start) (ending s start)) Another) (sym (ap is_short (sym e) ∙ t))
+      ∙ ap (λ (t : Bool). cond t (ended_word s (here s start) (ending s start)) None) (sym (ap is_short (sym e) ∙ t))
 
-  no_stop : (b ≡ LF → ⊥) → (b ≡ COMMA → ⊥) → ended_word s said end ≡ Another
+  no_stop : (b ≡ LF → ⊥) → (b ≡ COMMA → ⊥) → ended_word s said end ≡ None
   no_stop p q = simp (ne_eqb b COMMA q, ne_eqb b LF p)
 
   -- the field is short where one of the two stands here, and not where none does
@@ -116,29 +124,29 @@ module _ (s : List ℕ) (start : ℕ) (l : is_leading (get_or s start 0) ≡ tru
   first_left : field_at s start ≡ get_or s start 0 ∷ field_at s (start + 1)
   first_left = let r = leading_range (get_or s start 0) l in field_left s start i (λ e. omega arith) (λ e. omega arith)
 
-  digits_said_lem : here s start ≡ word_of (digits_from true d.value (field_at s d.end))
+  digits_said_lem : here s start ≡ word_of (said_by (digits_from (Some d.value) (field_at s d.end)))
   digits_said_lem =
       sym (word_said (field_of (field_at s start)))
-      ∙ ap word_of (said_leading (field_at s start) (ap (λ (f : List ℕ). is_leading (get_or f 0 0)) first_left ∙ l) ∙ sym k.scanned.said)
+      ∙ ap word_of (said_leading (field_at s start) (ap (λ (f : List ℕ). is_leading (get_or f 0 0)) first_left ∙ l) ∙ ap said_by (sym k.scanned.number_is))
 
   -- all of them, where the field ends behind them
   number_yes : Stop stop
       → (d.value ≡ here s start) × ((d.end ≡ ending s start) × (is_short d.value ≡ true))
   number_yes w =
       let z = field_stop s d.end k.inside w in (
-        ap word_of
-            (digits_none true d.value k.scanned.capped ∙ ap (λ (n : ℕ). digits_from true d.value (take n (drop d.end s))) (sym z))
+        ap (λ (held : Option ℕ). word_of (said_by held))
+            (digits_none (Some d.value) k.scanned.capped ∙ ap (λ (n : ℕ). digits_from (Some d.value) (take n (drop d.end s))) (sym z))
             ∙ sym digits_said_lem,
         (omega (arith, k.scanned.ends, z), simp (lt-ltb d.value CAP k.below)),
       )
 
   -- not all, where one more byte follows
-  past : (b : ℕ) (f : List ℕ) → (d.value < SHORT → is_digit b ≡ false) → is_short (word_of (digits_from true d.value (b ∷ f))) ≡ false
+  past : (b : ℕ) (f : List ℕ) → (d.value < SHORT → is_digit b ≡ false) → is_short (word_of (said_by (digits_from (Some d.value) (b ∷ f)))) ≡ false
   unfolding digits_from all_digits value_from
   past b f t = go (is_digit b) refl (all_digits f)
     where
       go : (p : Bool) → is_digit b ≡ p → (q : Bool)
-          → is_short (word_of (digits_said (p && q) (min (value_from (d.value * 10 + (b - 48)) f) CAP))) ≡ false
+          → is_short (word_of (said_by (cond (p && q) (Some (min (value_from (d.value * 10 + (b - 48)) f) CAP)) None))) ≡ false
       go true e true =
           let m : SHORT ≤ d.value =
           elim (dec_le SHORT d.value) [ yes g ↦ g | no g ↦ absurd (never (sym (t (lt_of_not-le g)) ∙ e)) ] in
@@ -150,7 +158,7 @@ module _ (s : List ℕ) (start : ℕ) (l : is_leading (get_or s start 0) ≡ tru
 
   number_no : (stop ≡ LF → ⊥) → (stop ≡ COMMA → ⊥) → is_short (here s start) ≡ false
   number_no p q =
-      ap is_short (digits_said_lem ∙ ap (λ (f : List ℕ). word_of (digits_from true d.value f)) (field_left s d.end k.inside p q))
+      ap is_short (digits_said_lem ∙ ap (λ (f : List ℕ). word_of (said_by (digits_from (Some d.value) f))) (field_left s d.end k.inside p q))
       ∙ past stop (field_at s (d.end + 1)) k.stops
 
   pub number_short : ended_word s d.value d.end ≡ short_at s start
@@ -191,24 +199,20 @@ module _ (s : List ℕ) (start : ℕ) (i : start + 1 < length s) where
 
 -- ---- any other byte
 
-pub none_short : (s : List ℕ) (start : ℕ) → start < length s → is_leading (get_or s start 0) ≡ false → (get_or s start 0 ≡ 48 → ⊥)
-    → (get_or s start 0 ≡ 45 → ⊥) → Another ≡ short_at s start
+pub none_short : (s : List ℕ) (start : ℕ) → start < length s → (49 ≤ get_or s start 0 → 57 < get_or s start 0) → (get_or s start 0 ≡ 48 → ⊥)
+    → (get_or s start 0 ≡ 45 → ⊥) → None ≡ short_at s start
 none_short s start h l z n = other_short s start (ap is_short says)
   where
     b : ℕ
     b = get_or s start 0
 
-    above : 48 ≤ b → ltb 48 b ≡ true
-    above g = lt-ltb 48 b (elim (dec_le b 48) [ yes m ↦ absurd (z (omega arith)) | no m ↦ lt_of_not-le m ])
-
     digit : is_digit b ≡ false
     digit =
-        elim (dec_le 48 b) [
-          | yes g ↦ elim (dec_le b 57) [
-            | yes k ↦ absurd (never (sym l ∙ simp (above g, le-leb b 57 k)))
-            | no k ↦ simp (lt-leb b 57 (lt_of_not-le k), le-leb 48 b g)
-          ]
-          | no g ↦ simp (lt-leb 48 b (lt_of_not-le g))
+        elim (dec_le 49 b) [
+          | yes g ↦ simp (lt-leb b 57 (l g), le-leb 48 b (omega arith))
+          | no g ↦
+              let k : b < 49 = lt_of_not-le g in
+              simp (lt-leb 48 b (elim (dec_le 48 b) [ yes m ↦ absurd (z (omega arith)) | no m ↦ lt_of_not-le m ]))
         ]
 
     empty : Stop b → here s start ≡ OTHER
@@ -232,10 +236,14 @@ pub record FieldBefore (sheet : List ℕ) (start said end behind : ℕ) : Type 0
   pub ends : end ≡ start + field_length (drop start sheet)
   pub stops : get_or sheet end 0 ≡ behind
 
-abbrev pub Before : (sheet : List ℕ) → (start : ℕ) → ShortRead → Type 0
-Before sheet start (Next said end) = FieldBefore sheet start said end COMMA
-Before sheet start (Last said end) = FieldBefore sheet start said end LF
-Before sheet start Another = Unit {0}
+-- the byte that a comma or the end of a line is
+abbrev pub byte_of : Behind → ℕ
+byte_of Comma = COMMA
+byte_of LineEnd = LF
+
+abbrev pub Before : (sheet : List ℕ) → (start : ℕ) → Option ShortField → Type 0
+Before sheet start (Some f) = FieldBefore sheet start f.word f.end (byte_of f.stop)
+Before sheet start None = Unit {0}
 
 pub short_before : (s : List ℕ) (start : ℕ) → Before s start (short_at s start)
 unfolding short_at
@@ -245,7 +253,7 @@ short_before s start = go (is_short (here s start)) (eqb b COMMA) refl (eqb b LF
     b = get_or s (ending s start) 0
 
     go : (t p : Bool) → eqb b COMMA ≡ p → (q : Bool) → eqb b LF ≡ q
-        → Before s start (cond t (cond p (Next (here s start) (ending s start)) (cond q (Last (here s start) (ending s start)) Another)) Another)
+        → Before s start (cond t (cond p (Some (record { word = here s start; end = ending s start; stop = Comma })) (cond q (Some (record { word = here s start; end = ending s start; stop = LineEnd })) None)) None)
     go false p e q f = tt
     go true true e q f = record { says = refl; ends = refl; stops = eqb-true b COMMA e }
     go true false e true f = record { says = refl; ends = refl; stops = eqb-true b LF f }

@@ -1,7 +1,7 @@
 -- Standard values held divided by a unit: no figure loses a digit, and each times the unit is the printed one. Assumes nothing.
 use mathlib.Core.Path.{◌≡◌, refl, sym, ap, ◌∙◌}
 use mathlib.Core.List.{List, map}
-use Prim.Native.Nat.{ℕ, ◌*◌, ◌/◌, ◌-◌, ◌^◌, ◌≤◌, ◌<◌}
+use Prim.Native.Nat.{ℕ, zero, suc, ◌*◌, ◌/◌, ◌-◌, ◌^◌, ◌≤◌, ◌<◌}
 use native.Mathlib.Nat.{zero-mul, lt_of_le_of_lt, mul-le-mul_right}
 use native.Mathlib.Omega.{arith}
 use lib.ListN.{get_or, get_or-map}
@@ -27,6 +27,33 @@ emission_factors_whole = refl
 pub carbonates_whole : Whole 1000 carbonates
 unfolding carbonates
 carbonates_whole = refl
+
+-- ---- what stands in the divided table for a code, times the unit, is the code's printed value, and 0 for code 0 is
+abbrev pub LookUp : (held : List ℕ) (unit : ℕ) (value : ℕ → ℕ) → Type 0
+LookUp held unit value =
+    (code found : ℕ) → (code ≡ 0 → found ≡ 0) → (1 ≤ code → found ≡ get_or held (code - 1) 0 * unit) → found ≡ value code
+
+look_up : {printed : List ℕ} {value : ℕ → ℕ} (unit : ℕ) → Lists printed value → Whole unit printed → LookUp (divided unit printed) unit value
+look_up unit t w zero n none found = none refl ∙ t.none
+look_up {printed} unit t w (suc k) n none found =
+    let e : suc k - 1 ≡ k = omega arith in
+    found (omega arith)
+    ∙ rw e (sym (get_or-map (λ (x : ℕ). x * unit) (divided unit printed) k 0))
+    ∙ ap (λ (l : List ℕ). get_or l k (0 * unit)) w
+    ∙ ap (get_or printed k) (zero-mul unit)
+    ∙ t.each k
+
+pub net_calorific_value_is : LookUp (divided 10 (map (λ (x : Fuel). x.net_calorific_value) fuels)) 10 (λ code. (fuel_of code).net_calorific_value)
+unfolding fuels
+net_calorific_value_is = look_up 10 net_calorific_values net_calorific_values_whole
+
+pub emission_factor_is : LookUp (divided 100 (map (λ (x : Fuel). x.emission_factor) fuels)) 100 (λ code. (fuel_of code).emission_factor)
+unfolding fuels
+emission_factor_is = look_up 100 emission_factors emission_factors_whole
+
+pub carbonate_is : LookUp (divided 1000 carbonates) 1000 carbonate_of
+unfolding carbonates
+carbonate_is = look_up 1000 carbonate_factors carbonates_whole
 
 -- ---- what stands in the divided table for a code, times the unit, is the code's printed value
 abbrev pub Found : (unit : ℕ) (printed : List ℕ) (value : ℕ → ℕ) (most : ℕ) → Type 0

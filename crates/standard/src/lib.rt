@@ -3,7 +3,7 @@
 // sake of the compiled code; docs/DECISIONS.md says why.
 #![tactic(auto)]
 
-ghost use Rattle.std.specs.Prelude.{◌≡◌, ◌≤◌};
+ghost use Rattle.std.specs.Prelude.{◌≡◌, ◌-◌, ◌*◌, ◌≤◌, slice_index};
 ghost use Rattle.quantity.specs.Standard.{fuel_of, carbonate_of};
 
 // "Fuels": net calorific value in units of 10 kJ/kg, of codes 1 to 16.
@@ -19,18 +19,25 @@ const EMISSION_FACTORS: [u16; 16] = [
 // "Carbonates": emission factor in units of 1,000 mg/kg, of codes 1 to 9.
 const CARBONATES: [u16; 9] = [440, 522, 415, 223, 596, 318, 298, 524, 380];
 
+// What a table holds for a code, times the table's unit: codes are counted from 1, and 0 stands for those that have none.
+fn looked_up<const CODES: usize, const UNIT: u64>(held: &[u16; CODES], code: u64) -> u64
+    requires codes { CODES ≤ 255 }
+    requires unit { UNIT ≤ 1000 }
+    ensures none { code ≡ 0 → result ≡ 0 }
+    ensures held { 1 ≤ code → result ≡ slice_index held.now (code - 1) * UNIT }
+{
+    if code == 0 || code > CODES as u64 {
+        return 0;
+    }
+    u64::from(held[usize::from(code as u8 - 1)]) * UNIT
+}
+
 // "Source streams", method 1: what `-` in a means, in kJ/kg.
 pub fn standard_net_calorific_value(code: u64) -> u64
     ensures value { result ≡ (fuel_of code).net_calorific_value }
     ensures bounded { result ≤ 200000 }
 {
-    if code == 0 {
-        return 0;
-    }
-    if code <= 16 {
-        return NET_CALORIFIC_VALUES[(code as u8 - 1) as usize] as u64 * 10;
-    }
-    0
+    looked_up::<16, 10>(&NET_CALORIFIC_VALUES, code)
 }
 
 // "Source streams", method 1: what `-` in b means, in mg/MJ.
@@ -38,13 +45,7 @@ pub fn standard_emission_factor(code: u64) -> u64
     ensures value { result ≡ (fuel_of code).emission_factor }
     ensures bounded { result ≤ 400000 }
 {
-    if code == 0 {
-        return 0;
-    }
-    if code <= 16 {
-        return EMISSION_FACTORS[(code as u8 - 1) as usize] as u64 * 100;
-    }
-    0
+    looked_up::<16, 100>(&EMISSION_FACTORS, code)
 }
 
 // "Source streams", method 2: what `-` in a means, in mg/kg.
@@ -52,11 +53,5 @@ pub fn standard_carbonate(code: u64) -> u64
     ensures value { result ≡ carbonate_of code }
     ensures bounded { result ≤ 4000000 }
 {
-    if code == 0 {
-        return 0;
-    }
-    if code <= 9 {
-        return CARBONATES[(code as u8 - 1) as usize] as u64 * 1000;
-    }
-    0
+    looked_up::<9, 1000>(&CARBONATES, code)
 }

@@ -10,12 +10,14 @@ use Rattle.lines.specs.Lines.{LF}
 use Rattle.fields.specs.Scan.{EndsInLF}
 use Rattle.short_fields.specs.Short.{short_at}
 use Rattle.fields.proofs.Scanning.{not_last}
-use Rattle.short_fields.proofs.Short.{Before, short_before}
-use Rattle.short_fields.specs.declared.ShortRead.{ShortRead}
-use Rattle.short_fields.specs.declared.ShortRead.TheVariants.{Next, Last, Another}
+use Rattle.short_fields.proofs.Short.{byte_of, Before, short_before}
+use Rattle.std.specs.Prelude.{Option, Some, None}
+use Rattle.fields.specs.declared.Stop.{Stop}
+use Rattle.fields.specs.declared.Stop.TheVariants.{Comma, LineEnd}
+use Rattle.short_fields.specs.declared.ShortField.{ShortField}
 use Rattle.heads.specs.Left.{comma_at}
 use Rattle.heads.proofs.Left.{comma_in, comma_at_lem, other_at}
-use Rattle.steps.specs.Steps.{Ahead, stayed, step_by, step_of}
+use Rattle.steps.specs.Steps.{tried, Ahead, stayed, step_by, step_of}
 use Rattle.steps.specs.declared.Step.{Step}
 
 -- a byte of a field stands behind a comma
@@ -24,30 +26,41 @@ ahead_inside s at a =
     let i = comma_in s at a.1 in
     not_last s at a.0 i (λ (e : get_or s at 0 ≡ LF). never (sym (other_at s at (λ c. omega arith)) ∙ a.1))
 
+pub tried_comma : (stop : Option Stop) → stop ≡ Some Comma → tried stop ≡ true
+tried_comma stop e = ap tried e
+
+pub tried_none : (stop : Option Stop) → (stop ≡ Some Comma → ⊥) → tried stop ≡ false
+tried_none (Some Comma) n = absurd (n refl)
+tried_none (Some LineEnd) n = refl
+tried_none None n = refl
+
 module _ (s : List ℕ) (f : Step) where
-  pub step_tried : f.more ≡ true → (r : ShortRead) → r ≡ short_at s (f.end + 1) → step_by f r ≡ step_of s f
+  pub step_tried : tried f.stop ≡ true → (r : Option ShortField) → r ≡ short_at s (f.end + 1) → step_by f r ≡ step_of s f
   unfolding step_of
   step_tried m r e = ap (step_by f) e ∙ ap (λ (p : Bool). cond p (step_by f (short_at s (f.end + 1))) (stayed f)) (sym m)
 
-  pub step_none : f.more ≡ false → stayed f ≡ step_of s f
+  pub step_none : tried f.stop ≡ false → stayed f ≡ step_of s f
   unfolding step_of
   step_none m = ap (λ (p : Bool). cond p (step_by f (short_at s (f.end + 1))) (stayed f)) (sym m)
 
   module _ (a : Ahead s f) (h : f.count ≤ f.end) where
-    bounds_by : f.more ≡ true → (r : ShortRead) → Before s (f.end + 1) r → Ahead s (step_by f r) × ((step_by f r).count ≤ (step_by f r).end)
-    bounds_by m (Next said end) b = (λ e. ((a m).0, comma_at_lem s end b.stops), omega (arith, b.ends))
-    bounds_by m (Last said end) b = (λ e. absurd (never e), omega (arith, b.ends))
-    bounds_by m Another b = (λ e. absurd (never e), h)
+    bounds_by : tried f.stop ≡ true → (r : Option ShortField) → Before s (f.end + 1) r → Ahead s (step_by f r) × ((step_by f r).count ≤ (step_by f r).end)
+    bounds_by m (Some r) b = (ahead r.stop b.stops, omega (arith, b.ends))
+      where
+        ahead : (stop : Stop) → get_or s r.end 0 ≡ byte_of stop → tried (Some stop) ≡ true → EndsInLF s × (comma_at s r.end ≡ true)
+        ahead Comma e t = ((a m).0, comma_at_lem s r.end e)
+        ahead LineEnd e t = absurd (never t)
+    bounds_by m None b = (λ e. absurd (never e), h)
 
     step_bounds : Ahead s (step_of s f) × ((step_of s f).count ≤ (step_of s f).end)
     unfolding step_of
-    step_bounds = go f.more refl
+    step_bounds = go (tried f.stop) refl
       where
-        go : (m : Bool) → f.more ≡ m
+        go : (m : Bool) → tried f.stop ≡ m
             → Ahead s (cond m (step_by f (short_at s (f.end + 1))) (stayed f))
             × ((cond m (step_by f (short_at s (f.end + 1))) (stayed f)).count ≤ (cond m (step_by f (short_at s (f.end + 1))) (stayed f)).end)
         go true m = bounds_by m (short_at s (f.end + 1)) (short_before s (f.end + 1))
-        go false m = (λ e. absurd (never e), h)
+        go false m = (λ e. absurd (never (sym m ∙ e)), h)
 
     -- what `next_field` promises of a step
     pub step_done : (r : Step) → r ≡ step_of s f → (r ≡ step_of s f) × (Ahead s r × (r.count ≤ r.end))

@@ -2,31 +2,33 @@
 #![tactic(auto)]
 
 ghost use Rattle.std.specs.Prelude.{◌≡◌, ◌≤◌};
-ghost use Rattle.steps.specs.Steps.{Ahead, stayed, step_of};
+ghost use Rattle.steps.specs.Steps.{Ahead, no_step, step_of};
 
-use short_fields::{ShortRead, short_field};
+use fields::Stop;
+use heads::Head;
+use short_fields::short_field;
 
-// A step from field to field: the word that it read, how many fields are read by now, and the place behind the last of them;
-// `more` where the next field is tried there, `done` where the line ends there.
+// A step from field to field: the word that it read, 0 where it read none; how many fields are read by now, the place behind the
+// last of them and what stands there: none where the next field is left to the loop over any fields.
 #[derive(Clone, Copy)]
 pub struct Step {
     pub word: u64,
     pub count: usize,
     pub end: usize,
-    pub more: bool,
-    pub done: bool,
+    pub stop: Option<Stop>,
 }
 
-// No field is read.
-fn stay(f: Step) -> Step
-    ensures { result ≡ stayed f }
-{
-    Step {
-        word: 0,
-        count: f.count,
-        end: f.end,
-        more: false,
-        done: f.done,
+// No field is tried yet.
+impl From<Head> for Step {
+    ghost from_gives = { λ head step. step ≡ no_step head };
+
+    fn from(head: Head) -> Step {
+        Step {
+            word: 0,
+            count: 0,
+            end: head.end,
+            stop: head.stop,
+        }
     }
 }
 
@@ -37,32 +39,20 @@ pub fn next_field(s: &[u8], f: Step) -> Step
     ensures value { result ≡ step_of s.now f }
     ensures bounded { Ahead s.now result × (result.count ≤ result.end) }
 {
-    let at = f.end;
-    if f.more {
-        let field = short_field(s, at + 1);
-        match field {
-            ShortRead::Next(word, end) => {
-                return Step {
-                    word,
-                    count: f.count + 1,
-                    end,
-                    more: true,
-                    done: false,
-                };
-            }
-            ShortRead::Last(word, end) => {
-                return Step {
-                    word,
-                    count: f.count + 1,
-                    end,
-                    more: false,
-                    done: true,
-                };
-            }
-            ShortRead::Another => {
-                return stay(f);
-            }
-        }
+    let Some(Stop::Comma) = f.stop else {
+        return Step { word: 0, ..f };
+    };
+    match short_field(s, f.end + 1) {
+        Some(field) => Step {
+            word: field.word,
+            count: f.count + 1,
+            end: field.end,
+            stop: Some(field.stop),
+        },
+        None => Step {
+            word: 0,
+            stop: None,
+            ..f
+        },
     }
-    stay(f)
 }

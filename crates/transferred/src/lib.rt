@@ -4,19 +4,18 @@
 ghost use Rattle.std.specs.Prelude.{◌≡◌, ◌-◌, ◌≤◌};
 ghost use Rattle.goods.specs.Sums.{only_at};
 ghost use Rattle.quantity.specs.Weights.{waste_gas_charge, waste_gas_credit};
-ghost use Rattle.ledger.specs.Moved.{heat_moved, between_processes, gas_moved, electricity_moved};
+ghost use Rattle.ledger.specs.Moved.{moved, heat_moved, between_processes, gas_moved, electricity_moved};
 
+use grams::weighing::{gas_charge, gas_credit};
 use ledger::{Entry, nothing};
 use quantity::{Grams, Megajoules};
 
 // An amount where the end is outside the works, else nothing.
+#[tactic(auto, unfolding(goods::specs::Sums::only_at))]
 fn outside(end: usize, amount: Grams) -> Grams
     ensures { result.0 ≡ only_at 0 end amount.0 }
 {
-    if end == 0 {
-        return amount;
-    }
-    Grams(0)
+    if end == 0 { amount } else { Grams(0) }
 }
 
 // Charge minus credit between two processes, else nothing.
@@ -24,64 +23,60 @@ fn between(from: usize, to: usize, charge: Grams, credit: Grams) -> Grams
     requires { credit.0 ≤ charge.0 }
     ensures { result.0 ≡ between_processes from to (charge.0 - credit.0) }
 {
-    if from == 0 {
-        return Grams(0);
+    if from == 0 || to == 0 {
+        Grams(0)
+    } else {
+        Grams(charge.0 - credit.0)
     }
-    if to == 0 {
-        return Grams(0);
+}
+
+// What is sent: its sender is credited, what comes from outside enters the works, and what goes outside leaves it.
+fn sent(from: usize, to: usize, charge: Grams, credit: Grams) -> Entry
+    ensures { result ≡ moved 0 0 from credit.0 0 0 (only_at 0 from charge.0) (only_at 0 to credit.0) 0 }
+{
+    Entry {
+        credited: from,
+        credit,
+        entering: outside(from, charge),
+        leaving: outside(to, credit),
+        ..nothing()
     }
-    Grams(charge.0 - credit.0)
 }
 
 // Heat: its receiver is charged, and its sender credited as much.
 pub fn heat_entry(from: usize, to: usize, weight: Grams) -> Entry
     ensures { result ≡ heat_moved from to weight.0 }
 {
-    let entering = outside(from, weight);
-    let leaving = outside(to, weight);
-    let mut heat = nothing();
-    heat.charged = to;
-    heat.charge = weight;
-    heat.credited = from;
-    heat.credit = weight;
-    heat.entering = entering;
-    heat.leaving = leaving;
-    heat
+    Entry {
+        charged: to,
+        charge: weight,
+        ..sent(from, to, weight, weight)
+    }
 }
 
 // Waste gas: its receiver is charged, and its sender credited with 667 thousandths of the charge.
+#[tactic(auto, using(quantity::proofs::Weights::credit_below_charge))]
 pub fn gas_entry(from: usize, to: usize, energy: Megajoules) -> Entry
     requires { (1 ≤ energy.0) × (energy.0 ≤ 1000000000000) }
     ensures { result ≡ gas_moved from to (waste_gas_charge energy.0) (waste_gas_credit energy.0) }
 {
-    let charge = grams::weighing::gas_charge(energy);
-    let credit = grams::weighing::gas_credit(energy);
-    let entering = outside(from, charge);
-    let leaving = outside(to, credit);
-    let uncredited = between(from, to, charge, credit);
-    let mut gas = nothing();
-    gas.charged = to;
-    gas.charge = charge;
-    gas.credited = from;
-    gas.credit = credit;
-    gas.entering = entering;
-    gas.leaving = leaving;
-    gas.uncredited = uncredited;
-    gas
+    let charge = gas_charge(energy);
+    let credit = gas_credit(energy);
+    Entry {
+        charged: to,
+        charge,
+        uncredited: between(from, to, charge, credit),
+        ..sent(from, to, charge, credit)
+    }
 }
 
 // Electricity: its maker is credited, and it is its user's indirect attribution.
 pub fn electricity_entry(from: usize, to: usize, weight: Grams) -> Entry
     ensures { result ≡ electricity_moved from to weight.0 }
 {
-    let entering = outside(from, weight);
-    let leaving = outside(to, weight);
-    let mut electricity = nothing();
-    electricity.credited = from;
-    electricity.credit = weight;
-    electricity.user = to;
-    electricity.electricity = weight;
-    electricity.entering = entering;
-    electricity.leaving = leaving;
-    electricity
+    Entry {
+        user: to,
+        electricity: weight,
+        ..sent(from, to, weight, weight)
+    }
 }

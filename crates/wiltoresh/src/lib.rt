@@ -8,7 +8,7 @@ ghost use Rattle.places.specs.LinePlace.{offending_line};
 ghost use Rattle.report.specs.Outcome.{outcome};
 ghost use Rattle.answers.specs.Given.{LONGEST, gives};
 
-use answers::LONGEST;
+use answers::{Answer, LONGEST};
 use places::line_place;
 use writer::report;
 
@@ -24,7 +24,7 @@ pub extern "C" fn wiltoresh_report(
         ≡ outcome limits sheet.now space.old }
     ensures long_enough { LONGEST ≤ lib.ListN.length space.old → result ≡ 16 → ⊥ }
 {
-    let answer = report(sheet, space);
+    let answer = Answer::from(report(sheet, space));
     *line = answer.line;
     *length = answer.length;
     answer.number

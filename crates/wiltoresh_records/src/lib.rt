@@ -5,6 +5,8 @@ ghost use Rattle.std.specs.Prelude.{◌≡◌};
 ghost use Rattle.answers.specs.Given.{gives};
 ghost use Rattle.record_exchange.specs.Exchange.{sheet_written, records_read};
 
+use answers::Answer;
+
 // The sheet of lent records. The result is the refusal's number, 0 where the sheet is written.
 #[unsafe(no_mangle)]
 pub extern "C" fn wiltoresh_write(
@@ -16,7 +18,7 @@ pub extern "C" fn wiltoresh_write(
     ensures { gives (record { number = result; line = line.new; length = length.new }) space.new
         ≡ sheet_written records.now space.old }
 {
-    let answer = sheet_writer::write(records, space);
+    let answer = Answer::from(sheet_writer::write(records, space));
     *line = answer.line;
     *length = answer.length;
     answer.number
@@ -33,7 +35,7 @@ pub extern "C" fn wiltoresh_read(
     ensures { gives (record { number = result; line = line.new; length = count.new }) records.new
         ≡ records_read sheet.now records.old }
 {
-    let answer = sheet_reader::read(sheet, records);
+    let answer = Answer::from(sheet_reader::read(sheet, records));
     *line = answer.line;
     *count = answer.length;
     answer.number

@@ -1,2 +1,2 @@
 -- Laws that the crates above cite.
-pub mod Noted
+pub mod AfterLine

@@ -1,7 +1,8 @@
 -- For the code only: what the code holds of the lines above, and after one line more. Laws join it to document 01's sums.
 use Rattle.std.specs.Prelude.{cond, not, List, ℕ, ◌+◌, ◌*◌, ◌≤◌, ◌<◌, eqb, ltb, get_or, replicate}
 use Rattle.quantity.specs.Limits.{Limits, limits}
-use Rattle.sheet.specs.Kinds.{Process, OwnGood, letter}
+use Rattle.sheet.specs.Kinds.{letter}
+use Rattle.sheet.specs.declared.Kind.TheVariants.{Process, OwnGood}
 use Rattle.sheet.specs.Most.{KILOS, MOST}
 use Rattle.lines.specs.declared.LineRead.{LineRead}
 use Rattle.goods.specs.Settling.{SIZE}
@@ -12,16 +13,19 @@ use Rattle.checks.specs.declared.above.Above.{Above}
 use Rattle.judge.specs.Line.{line_number}
 use Rattle.entries.specs.Entries.{entry}
 use Rattle.entries.specs.Read.{record_read}
+use Rattle.works.specs.declared.Noted.{Noted}
 use Rattle.works.specs.declared.Works.{Works}
 
-abbrev pub works_of : (lines count : ℕ) → (outputs taken : List ℕ) → Ledger → Works
-works_of lines count outputs taken ledger = record {
+abbrev pub noted_of : (lines count : ℕ) → (outputs taken : List ℕ) → Noted
+noted_of lines count outputs taken = record {
   lines = lines;
   count = count;
   outputs = record { 0 = outputs };
   taken = record { 0 = taken };
-  ledger = ledger;
 }
+
+abbrev pub works_of : (lines count : ℕ) → (outputs taken : List ℕ) → Ledger → Works
+works_of lines count outputs taken ledger = record { noted = noted_of lines count outputs taken; ledger = ledger }
 
 -- the kilograms of a process and of a pair of processes, 0 where there is no such place
 abbrev pub of_process : (kilos : List ℕ) → (n : ℕ) → ℕ
@@ -34,28 +38,26 @@ of_pair kilos f t = cond (ltb f SIZE) (cond (ltb t SIZE) (get_or kilos (f * SIZE
 abbrev of_good : (byte : ℕ) → ℕ → ℕ
 of_good byte n = cond (eqb byte (letter OwnGood)) n 0
 
--- what the lines above say of a line of this letter and these words, from the parts of the state that the code reads
-abbrev pub above_at : (lines count : ℕ) → (outputs taken kilos : List ℕ) → (byte : ℕ) → (words : List ℕ) → Above
-above_at lines count outputs taken kilos byte words = record {
-  lines = lines;
-  processes = count;
-  output = record { 0 = of_good byte (of_process outputs (get_or words 0 0)) };
-  taken = record { 0 = of_good byte (of_process taken (get_or words 0 0)) };
-  pair = record { 0 = of_good byte (of_pair kilos (get_or words 0 0) (get_or words 1 0)) };
+-- WHAT THE LINES ABOVE SAY of a line, from the state: the struct, and the kilograms of pairs
+abbrev pub above_at : Noted → (kilos : List ℕ) → LineRead → Above
+above_at n kilos l = record {
+  lines = n.lines;
+  processes = n.count;
+  output = record { 0 = of_good l.letter (of_process n.outputs.0 (get_or l.words 0 0)) };
+  taken = record { 0 = of_good l.letter (of_process n.taken.0 (get_or l.words 0 0)) };
+  pair = record { 0 = of_good l.letter (of_pair kilos (get_or l.words 0 0) (get_or l.words 1 0)) };
 }
 
--- WHAT THE LINES ABOVE SAY of a line, from the state: the struct, and the kilograms of pairs
 abbrev pub above_of : Works → (kilos : List ℕ) → LineRead → Above
-above_of w kilos l = above_at w.lines w.count w.outputs.0 w.taken.0 kilos l.letter l.words
+above_of w kilos l = above_at w.noted kilos l
 
 -- 2 to 13 of a line that was read, in a sheet of so many bytes
 abbrev pub read_number : Limits → LineRead → (size : ℕ) → Above → ℕ
 read_number limits l size above = line_number limits (not (eqb l.end size)) l.letter l.count l.words above
 
--- the same, from the parts of the state that the code reads
-abbrev pub state_number : Limits → (lines count : ℕ) → (outputs taken kilos : List ℕ) → LineRead → (size : ℕ) → ℕ
-state_number limits lines count outputs taken kilos l size =
-    read_number limits l size (above_at lines count outputs taken kilos l.letter l.words)
+-- the same, from the state
+abbrev pub state_number : Limits → Noted → (kilos : List ℕ) → LineRead → (size : ℕ) → ℕ
+state_number limits n kilos l size = read_number limits l size (above_at n kilos l)
 
 -- a P line: one process more, and its output
 abbrev pub output_noted : List ℕ → LineRead → List ℕ
@@ -80,17 +82,20 @@ taken_after taken l = cond (eqb l.letter (letter OwnGood)) (taken_noted taken l)
 unfoldable pub kilos_after : List ℕ → LineRead → List ℕ
 kilos_after kilos l = cond (eqb l.letter (letter OwnGood)) (pair_noted kilos l) kilos
 
--- a line of any kind: its entry booked, its kilograms noted
+-- a line of any kind: its kilograms noted
+abbrev pub noted_after : Noted → LineRead → Noted
+noted_after n l = noted_of (n.lines + 1) (count_after n.count l) (outputs_after n.outputs.0 l) (taken_after n.taken.0 l)
+
+-- and its entry booked
 abbrev pub works_after : Works → LineRead → Works
-works_after w l =
-    works_of (w.lines + 1) (count_after w.count l) (outputs_after w.outputs.0 l) (taken_after w.taken.0 l)
-    (booked w.ledger (entry (record_read l)))
+works_after w l = record { noted = noted_after w.noted l; ledger = booked w.ledger (entry (record_read l)) }
 
 -- there is room for the kilograms of one line more
-pub record RoomForLine (w : Works) (kilos : List ℕ) : Type 0 where
-  pub count : w.count ≤ limits.lines
-  pub outputs : AtMost MOST w.outputs.0
-  pub taken : AtMost MOST w.taken.0
+pub record RoomForLine (n : Noted) (kilos : List ℕ) : Type 0 where
+  pub lines : n.lines ≤ limits.lines
+  pub count : n.count ≤ limits.lines
+  pub outputs : AtMost MOST n.outputs.0
+  pub taken : AtMost MOST n.taken.0
   pub pairs : AtMost MOST kilos
 
 -- what noting a P line asks, and what noting a G line asks
@@ -104,5 +109,8 @@ KilosAsked taken kilos l =
     × (get_or taken (get_or l.words 0 0) 0 ≤ MOST) × (get_or kilos (get_or l.words 0 0 * SIZE + get_or l.words 1 0) 0 ≤ MOST)
 
 -- above the first line
+abbrev pub nothing_noted : Noted
+nothing_noted = noted_of 0 0 (replicate SIZE 0) (replicate SIZE 0)
+
 abbrev pub works_at_start : Works
-works_at_start = works_of 0 0 (replicate SIZE 0) (replicate SIZE 0) start
+works_at_start = record { noted = nothing_noted; ledger = start }

@@ -3,16 +3,40 @@
 
 pub mod judging;
 
-use goods::KilosByProcess;
+ghost use Rattle.std.specs.Prelude.{◌≡◌};
+ghost use Rattle.works.specs.Works.{nothing_noted};
+
+use goods::{KilosByProcess, SIZE};
 use ledger::Ledger;
 
-// What the lines above say: how many they are, how many of them are P lines, the kilograms of each process's output and
-// those that G lines take of it, and the grams that they move.
+// What the lines above say of outputs and own goods: how many they are, how many of them are P lines, the kilograms of each process's output
+// and those that G lines take of it.
 #[derive(Clone, Copy)]
-pub struct Works {
+pub struct Noted {
     pub lines: usize,
     pub count: usize,
     pub outputs: KilosByProcess,
     pub taken: KilosByProcess,
+}
+
+impl Noted {
+    // Above the first line: nothing is noted.
+    pub fn none() -> Noted
+        ensures { result ≡ nothing_noted }
+    {
+        let no_kilos = KilosByProcess([0; SIZE]);
+        Noted {
+            lines: 0,
+            count: 0,
+            outputs: no_kilos,
+            taken: no_kilos,
+        }
+    }
+}
+
+// What the lines above say, and the grams that they move.
+#[derive(Clone, Copy)]
+pub struct Works {
+    pub noted: Noted,
     pub ledger: Ledger,
 }

@@ -7,19 +7,21 @@ use native.Mathlib.Nat.{le_refl}
 use lib.ListN.{length}
 use Rattle.quantity.specs.Limits.{limits}
 use Rattle.lines.specs.Records.{Record, records_of}
-use Rattle.sheet.specs.Verdict.{Check, check, Verdict, refused, first_of}
-use Rattle.checks.specs.Numbers.{refusal_number}
-use Rattle.sheet.proofs.First.{accepted_passes, numbered}
+use Rattle.sheet.specs.Verdict.{Check, check, Verdict, first_of}
+use Rattle.std.specs.Prelude.{Err}
+use Rattle.checks.specs.Numbers.{refusal_number, refused_by}
+use Rattle.checks.specs.declared.refusals.Refused.{Refused}
+use Rattle.sheet.proofs.First.{accepted_passes}
 use Rattle.attribution.specs.Reckoning as attribution
 use Rattle.attribution.specs.Verdict.{reckoner_checks}
 use Rattle.report.specs.Report.{report_of}
 use Rattle.report.specs.Spelling.{report_bytes}
 use Rattle.report.specs.Outcome.{sheet_report, space_too_short, all_checks, verdict, outcome_of, Outcome, outcome, printed, carbon}
 use Rattle.report.proofs.Longest.{report_most, never_short}
-use Rattle.reckoner.specs.Reckoned.{FiguresOf, Reckoned}
+use Rattle.reckoner.specs.Reckoned.{FiguresOf, Figured}
 use Rattle.reckoning.specs.declared.Reckoning.{Reckoning}
 use Rattle.sheet.proofs.First.{first_rest, first_here}
-use Rattle.answers.specs.Given.{LONGEST}
+use Rattle.answers.specs.Given.{LONGEST, answer_of, gives}
 use Rattle.answers.specs.Within.{outcome_within}
 use Rattle.rows.specs.Held.{CanBeWritten, row_held, rows_held, reckoning_held, bytes_held}
 
@@ -63,40 +65,38 @@ module _ (rs : List Record) (r : Reckoning) (f : FiguresOf rs r) where
 
 -- ---- number, line, length and every byte
 
-module _ (sheet space : List ℕ) (r : Reckoning) (h : Reckoned sheet r) where
+module _ (sheet space : List ℕ) where
   abbrev last : List Check
   last = check 16 0 (space_too_short sheet space) ∷ []
 
-  refused_by_lem : (refusal_number r.refusal ≡ 0 → ⊥) → first_of (reckoner_checks limits sheet) ≡ refused (refusal_number r.refusal) r.line
-  refused_by_lem some =
-      numbered (first_of (reckoner_checks limits sheet)) (λ z. some (h.number ∙ z)) ∙ ap₂ refused (sym h.number) (sym h.line_is)
+  -- a row from 1 to 15 applies
+  module _ (e : Refused) (v : first_of (reckoner_checks limits sheet) ≡ refused_by e) where
+    pub printed_refusal : carbon limits sheet ≡ printed (refused_by e) []
+    unfolding carbon
+    printed_refusal = ap (λ (v : Verdict). printed v (sheet_report sheet)) v
 
-  pub printed_refusal : (refusal_number r.refusal ≡ 0 → ⊥) → carbon limits sheet ≡ printed (refused (refusal_number r.refusal) r.line) []
-  unfolding carbon
-  printed_refusal some = ap (λ (v : Verdict). printed v (sheet_report sheet)) (refused_by_lem some)
+    pub refused_outcome : gives (answer_of (Err e)) space ≡ outcome limits sheet space
+    unfolding outcome verdict all_checks
+    refused_outcome =
+        let w = first_here (reckoner_checks limits sheet) last (refusal_number e.refusal) e.line v in
+        sym (ap (λ (v : Verdict). outcome_of v (sheet_report sheet) space) w)
 
-  pub refused_outcome : (refusal_number r.refusal ≡ 0 → ⊥)
-      → record { number = refusal_number r.refusal; line = r.line; length = 0; space = space } ≡ outcome limits sheet space
-  unfolding outcome verdict all_checks
-  refused_outcome some =
-      let w = first_here (reckoner_checks limits sheet) last (refusal_number r.refusal) r.line (refused_by_lem some) in
-      sym (ap (λ (v : Verdict). outcome_of v (sheet_report sheet) space) w)
-
-  module _ (zero_number : refusal_number r.refusal ≡ 0) where
+  -- none does
+  module _ (r : Reckoning) (h : Figured sheet r) where
     pub bytes_are : bytes_held r ≡ sheet_report sheet
     unfolding bytes_held sheet_report
-    bytes_are = ap (λ (q : attribution.Reckoning). report_bytes (report_of q)) (reckoning_is (records_of sheet) r (h.figured zero_number))
+    bytes_are = ap (λ (q : attribution.Reckoning). report_bytes (report_of q)) (reckoning_is (records_of sheet) r h.figured)
 
     pub report_short : length (bytes_held r) ≤ LONGEST
     report_short =
-        omega (arith, ap length bytes_are, report_most limits (omega arith) sheet (accepted_passes (reckoner_checks limits sheet) (h.passed zero_number)))
+        omega (arith, ap length bytes_are, report_most limits (omega arith) sheet (accepted_passes (reckoner_checks limits sheet) h.passed))
 
     pub printed_report : carbon limits sheet ≡ bytes_held r
     unfolding carbon
-    printed_report = ap (λ (v : Verdict). printed v (sheet_report sheet)) (h.passed zero_number) ∙ sym bytes_are
+    printed_report = ap (λ (v : Verdict). printed v (sheet_report sheet)) h.passed ∙ sym bytes_are
 
     passes : first_of (reckoner_checks limits sheet ++ last) ≡ first_of last
-    passes = first_rest (reckoner_checks limits sheet) last (h.passed zero_number)
+    passes = first_rest (reckoner_checks limits sheet) last h.passed
 
     -- row 16 is left to judge
     pub accepted_within : outcome_within (bytes_held r) space ≡ outcome limits sheet space

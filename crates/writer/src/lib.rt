@@ -5,10 +5,10 @@ ghost use Rattle.std.specs.Prelude.{◌≡◌, ◌≤◌, length};
 ghost use Rattle.quantity.specs.Limits.{limits};
 ghost use Rattle.decimal.specs.Writing.{Put};
 ghost use Rattle.report.specs.Outcome.{outcome, carbon};
-ghost use Rattle.answers.specs.Given.{LONGEST, gives};
+ghost use Rattle.answers.specs.Given.{LONGEST, answer_of, gives};
 
-use answers::{Answer, LONGEST, put_refusal, put_within};
-use checks::refusals::refusal_number;
+use answers::{LONGEST, put_refusal, put_within};
+use checks::refusals::Refused;
 use reckoner::reckon;
 use rows::put_report;
 
@@ -17,38 +17,22 @@ pub fn print(sheet: &[u8], space: &mut [u8; LONGEST]) -> usize
     ensures put { Put space.old 0 (carbon limits sheet.now) space.new result }
     ensures bounded { result ≤ length space.new }
 {
-    let r = reckon(sheet);
-    let refusal = r.refusal;
-    let number = refusal_number(refusal);
-    if number != 0 {
-        return put_refusal(space, number, r.line);
+    match reckon(sheet) {
+        Ok(r) => put_report(space, r),
+        Err(refused) => put_refusal(space, u64::from(refused.refusal), refused.line),
     }
-    put_report(space, r)
 }
 
 // The report of a sheet at the start of the lent space; a refused sheet leaves the space as it was. A space of LONGEST bytes is never too
 // short.
-pub fn report(sheet: &[u8], space: &mut [u8]) -> Answer
-    ensures space_after { gives result space.new ≡ outcome limits sheet.now space.old }
-    ensures long_enough { LONGEST ≤ length space.old → result.number ≡ 16 → ⊥ }
+pub fn report(sheet: &[u8], space: &mut [u8]) -> Result<usize, Refused>
+    ensures space_after { gives (answer_of result) space.new ≡ outcome limits sheet.now space.old }
+    ensures long_enough { LONGEST ≤ length space.old → (answer_of result).number ≡ 16 → ⊥ }
 {
-    let r = reckon(sheet);
-    let refusal = r.refusal;
-    let number = refusal_number(refusal);
-    if number != 0 {
-        return Answer {
-            number: number,
-            line: r.line,
-            length: 0,
-        };
-    }
+    let r = reckon(sheet)?;
     // At LONGEST itself either way gives the same report.
     if space.len() < LONGEST {
         return put_within(space, r);
     }
-    Answer {
-        number: number,
-        line: 0,
-        length: put_report(space, r),
-    }
+    Ok(put_report(space, r))
 }

@@ -8,7 +8,7 @@ use Rattle.answers.proofs.put_within.Goals as goal
 pub returns-then-space-length : goal.returns-then-space-length
 returns-then-space-length c =
     let put = c.put_report-length.ensures in
-    rw c.refusal_number.ensures (short_within (bytes_held c.args.r) c.args.space.now (omega (arith, start_place put, c.if-space-length.true)))
+    rw c.from.ensures (short_within (bytes_held c.args.r) c.args.space.now (omega (arith, start_place put, c.if-space-length.true)))
 
 pub returns : goal.returns
 returns c =

@@ -53,43 +53,43 @@ add_all-requires-clause-fit_together c = own_fits (settleable c.requires c.raise
 pub add_all-requires-2-clause-fit_together : goal.add_all-requires-2-clause-fit_together
 add_all-requires-2-clause-fit_together c = own_fits c.requires.indirect
 
-pub settle-settled-requires-clause-settleable : goal.settle-settled-requires-clause-settleable
-settle-settled-requires-clause-settleable c =
+pub settle-requires-clause-settleable_direct : goal.settle-requires-clause-settleable_direct
+settle-requires-clause-settleable_direct c =
     settleable_cong (λ n l h. sym (c.add_all.ensures.at n l h)) (settleable c.requires c.raise_all.ensures.direct)
 
-pub settle-settled-requires-clause-settleable_2 : goal.settle-settled-requires-clause-settleable_2
-settle-settled-requires-clause-settleable_2 c = settleable_cong (λ n l h. sym (c.add_all-2.ensures.at n l h)) c.requires.indirect
+pub settle-requires-clause-settleable_indirect : goal.settle-requires-clause-settleable_indirect
+settle-requires-clause-settleable_indirect c = settleable_cong (λ n l h. sym (c.add_all-2.ensures.at n l h)) c.requires.indirect
 
 pub total-direct_left-requires-clause-a_bound : goal.total-direct_left-requires-clause-a_bound
 total-direct_left-requires-clause-a_bound c =
     let fits =
-    left_fits c.requires c.raise_all.ensures.direct c.add_all.ensures c.settle-settled.ensures.pools_settled c.add_all-2.ensures
-    c.settle-settled.ensures.pools_settled_2 in
+    left_fits c.requires c.raise_all.ensures.direct c.add_all.ensures c.settle.ensures.settled_direct c.add_all-2.ensures
+    c.settle.ensures.settled_indirect in
     omega (arith, fits)
 
 pub total-indirect_left-requires-clause-a_bound : goal.total-indirect_left-requires-clause-a_bound
 total-indirect_left-requires-clause-a_bound c =
     let fits =
-    left_fits c.requires c.raise_all.ensures.direct c.add_all.ensures c.settle-settled.ensures.pools_settled c.add_all-2.ensures
-    c.settle-settled.ensures.pools_settled_2 in
+    left_fits c.requires c.raise_all.ensures.direct c.add_all.ensures c.settle.ensures.settled_direct c.add_all-2.ensures
+    c.settle.ensures.settled_indirect in
     omega (arith, fits)
 
 pub overflow_add-left : goal.overflow_add-left
 overflow_add-left c =
     let fits =
-    left_fits c.requires c.raise_all.ensures.direct c.add_all.ensures c.settle-settled.ensures.pools_settled c.add_all-2.ensures
-    c.settle-settled.ensures.pools_settled_2 in
+    left_fits c.requires c.raise_all.ensures.direct c.add_all.ensures c.settle.ensures.settled_direct c.add_all-2.ensures
+    c.settle.ensures.settled_indirect in
     record { fits = omega (arith, fits, c.total-direct_left.ensures, c.total-indirect_left.ensures) }
 
 pub returns : goal.returns
 returns c =
-    let d = direct_pooled c.requires c.raise_all.ensures.direct c.add_all.ensures c.settle-settled.ensures.pools_settled in
+    let d = direct_pooled c.requires c.raise_all.ensures.direct c.add_all.ensures c.settle.ensures.settled_direct in
     let i =
-    indirect_pooled c.requires c.raise_all.ensures.direct c.add_all.ensures c.settle-settled.ensures.pools_settled c.add_all-2.ensures
-    c.settle-settled.ensures.pools_settled_2 in
+    indirect_pooled c.requires c.raise_all.ensures.direct c.add_all.ensures c.settle.ensures.settled_direct c.add_all-2.ensures
+    c.settle.ensures.settled_indirect in
     let fits =
-    left_fits c.requires c.raise_all.ensures.direct c.add_all.ensures c.settle-settled.ensures.pools_settled c.add_all-2.ensures
-    c.settle-settled.ensures.pools_settled_2 in
+    left_fits c.requires c.raise_all.ensures.direct c.add_all.ensures c.settle.ensures.settled_direct c.add_all-2.ensures
+    c.settle.ensures.settled_indirect in
     let left = ap₂ (λ (direct indirect : ℕ). direct + indirect) c.total-direct_left.ensures c.total-indirect_left.ensures in
     let size : length c.args.l.indirect.0 ≡ SIZE = search rules in
     record {

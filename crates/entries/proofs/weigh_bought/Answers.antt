@@ -1,14 +1,16 @@
 -- `weigh_bought` meets its contract. Assumes nothing.
 use mathlib.Core.Path.{◌≡◌, refl, ◌∙◌}
-use Prim.Native.Nat.{ℕ, ◌≤◌}
+use Prim.Native.Nat.{ℕ, ◌*◌, ◌≤◌}
+use native.Mathlib.Nat.{mul-le-mul}
 use native.Mathlib.Omega.{arith}
 use borrow.Author.Rules.{rules as search_rules}
-use lib.ListN.{length, get_or}
+use lib.ListN.{length}
 use Rattle.lines.specs.Words.{WORDS}
 use Rattle.lines.specs.declared.LineRead.{LineRead}
 use Rattle.quantity.specs.Limits.{limits}
 use Rattle.quantity.specs.Weights.{weight}
-use Rattle.sheet.specs.Kinds.{BoughtPrecursor, letter, rules}
+use Rattle.sheet.specs.Kinds.{letter, rules}
+use Rattle.sheet.specs.declared.Kind.TheVariants.{BoughtPrecursor}
 use Rattle.ledger.specs.Moved.{bought_moved}
 use Rattle.entries.specs.Weighed.{bought_direct_of, bought_indirect_of}
 use Rattle.entries.specs.Entries.{entry}
@@ -19,8 +21,8 @@ use Rattle.entries.proofs.weigh_bought.Goals as goal
 
 -- `B,n,kg,direct,indirect`
 record BoughtLine (l : LineRead) : Type 0 where
-  direct : (w l 1 ≤ 10000000000) × (w l 2 ≤ 100000000)
-  indirect : (w l 1 ≤ 10000000000) × (w l 3 ≤ 100000000)
+  direct : w l 1 * w l 2 ≤ 1000000000000000000
+  indirect : w l 1 * w l 3 ≤ 1000000000000000000
   entry_is : {g h : ℕ} → g ≡ weight (w l 1) (w l 2) → h ≡ weight (w l 1) (w l 3) → bought_moved (w l 0) g h ≡ entry (record_read l)
 
 bought_line : (l : LineRead) → length l.words ≡ WORDS → LineKeeps l → l.letter ≡ letter BoughtPrecursor → BoughtLine l
@@ -29,29 +31,25 @@ bought_line l sized keeps e =
     let k = kind_at l BoughtPrecursor e in
     let n = in_rules limits (record_read l) keeps.ranges BoughtPrecursor k in
     let v = are_words l sized keeps BoughtPrecursor k in
-    let mass : get_or l.words 1 0 ≤ 10000000000 = omega (arith, (n.1.0 refl).high, v.1.0 refl) in
     record {
-      direct = (mass, omega (arith, (n.1.1.0 refl).high, v.1.1.0 refl));
-      indirect = (mass, omega (arith, (n.1.1.1.0 refl).high, v.1.1.1.0 refl));
+      direct = rw (← v.1.0 refl, ← v.1.1.0 refl) (omega (arith, mul-le-mul (n.1.0 refl).high (n.1.1.0 refl).high));
+      indirect = rw (← v.1.0 refl, ← v.1.1.1.0 refl) (omega (arith, mul-le-mul (n.1.0 refl).high (n.1.1.1.0 refl).high));
       entry_is = λ p q. rw (p, q, ← v.0 refl, ← v.1.0 refl, ← v.1.1.0 refl, ← v.1.1.1.0 refl)
           (rw (is_at l BoughtPrecursor e) at (entry_at l BoughtPrecursor e));
     }
 
-pub precursor_weight-direct-requires : goal.precursor_weight-direct-requires
-precursor_weight-direct-requires c =
+pub weighed-direct-requires : goal.weighed-direct-requires
+weighed-direct-requires c =
     let line = bought_line c.args.l (search search_rules) c.requires.line_keeps c.requires.letter_value in
     line.direct
 
-pub precursor_weight-indirect-requires : goal.precursor_weight-indirect-requires
-precursor_weight-indirect-requires c =
+pub weighed-indirect-requires : goal.weighed-indirect-requires
+weighed-indirect-requires c =
     let line = bought_line c.args.l (search search_rules) c.requires.line_keeps c.requires.letter_value in
     line.indirect
-
-pub bought_entry-requires : goal.bought_entry-requires
-bought_entry-requires c = (c.precursor_weight-direct.ensures.bounded, c.precursor_weight-indirect.ensures.bounded)
 
 pub returns : goal.returns
 returns c =
     let line = bought_line c.args.l (search search_rules) c.requires.line_keeps c.requires.letter_value in
     c.bought_entry.ensures
-    ∙ line.entry_is c.precursor_weight-direct.ensures.result_value c.precursor_weight-indirect.ensures.result_value
+    ∙ line.entry_is c.weighed-direct.ensures.result_value c.weighed-indirect.ensures.result_value

@@ -8,7 +8,8 @@ use Rattle.lines.specs.Words.{WORDS}
 use Rattle.lines.specs.declared.LineRead.{LineRead}
 use Rattle.quantity.specs.Limits.{limits}
 use Rattle.quantity.specs.Weights.{waste_gas_charge, waste_gas_credit}
-use Rattle.sheet.specs.Kinds.{WasteGas, letter, rules}
+use Rattle.sheet.specs.Kinds.{letter, rules}
+use Rattle.sheet.specs.declared.Kind.TheVariants.{WasteGas}
 use Rattle.ledger.specs.Moved.{gas_moved}
 use Rattle.entries.specs.Weighed.{charge_of, credit_of}
 use Rattle.entries.specs.Entries.{entry}

@@ -1,6 +1,7 @@
 -- `weigh_heat` meets its contract. Assumes nothing.
 use mathlib.Core.Path.{◌≡◌, refl, ◌∙◌}
-use Prim.Native.Nat.{ℕ, ◌≤◌}
+use Prim.Native.Nat.{ℕ, ◌*◌, ◌≤◌}
+use native.Mathlib.Nat.{mul-le-mul}
 use native.Mathlib.Omega.{arith}
 use borrow.Author.Rules.{rules as search_rules}
 use lib.ListN.{length}
@@ -8,7 +9,8 @@ use Rattle.lines.specs.Words.{WORDS}
 use Rattle.lines.specs.declared.LineRead.{LineRead}
 use Rattle.quantity.specs.Limits.{limits}
 use Rattle.quantity.specs.Weights.{weight}
-use Rattle.sheet.specs.Kinds.{MeasurableHeat, letter, rules}
+use Rattle.sheet.specs.Kinds.{letter, rules}
+use Rattle.sheet.specs.declared.Kind.TheVariants.{MeasurableHeat}
 use Rattle.ledger.specs.Moved.{heat_moved}
 use Rattle.entries.specs.Weighed.{heat_of}
 use Rattle.entries.specs.Entries.{entry}
@@ -19,7 +21,7 @@ use Rattle.entries.proofs.weigh_heat.Goals as goal
 
 -- `H,from,to,MJ,factor`
 record HeatLine (l : LineRead) : Type 0 where
-  ranges : (w l 2 ≤ 1000000000000) × (w l 3 ≤ 400000)
+  fits : w l 2 * w l 3 ≤ 1000000000000000000
   entry_is : {g : ℕ} → g ≡ weight (w l 2) (w l 3) → heat_moved (w l 0) (w l 1) g ≡ entry (record_read l)
 
 heat_line : (l : LineRead) → length l.words ≡ WORDS → LineKeeps l → l.letter ≡ letter MeasurableHeat → HeatLine l
@@ -29,17 +31,17 @@ heat_line l sized keeps e =
     let n = in_rules limits (record_read l) keeps.ranges MeasurableHeat k in
     let v = are_words l sized keeps MeasurableHeat k in
     record {
-      ranges = (omega (arith, (n.1.1.0 refl).high, v.1.1.0 refl), omega (arith, (n.1.1.1.0 refl).high, v.1.1.1.0 refl));
+      fits = rw (← v.1.1.0 refl, ← v.1.1.1.0 refl) (omega (arith, mul-le-mul (n.1.1.0 refl).high (n.1.1.1.0 refl).high));
       entry_is = λ g. rw (g, ← v.0 refl, ← v.1.0 refl, ← v.1.1.0 refl, ← v.1.1.1.0 refl)
           (rw (is_at l MeasurableHeat e) at (entry_at l MeasurableHeat e));
     }
 
-pub heat_weight-weight-requires : goal.heat_weight-weight-requires
-heat_weight-weight-requires c =
+pub weighed-weight-requires : goal.weighed-weight-requires
+weighed-weight-requires c =
     let line = heat_line c.args.l (search search_rules) c.requires.line_keeps c.requires.letter_value in
-    line.ranges
+    line.fits
 
 pub returns : goal.returns
 returns c =
     let line = heat_line c.args.l (search search_rules) c.requires.line_keeps c.requires.letter_value in
-    c.heat_entry.ensures ∙ line.entry_is c.heat_weight-weight.ensures.result_value
+    c.heat_entry.ensures ∙ line.entry_is c.weighed-weight.ensures.result_value

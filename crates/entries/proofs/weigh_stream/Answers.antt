@@ -1,6 +1,6 @@
 -- `weigh_stream` meets its contract. Assumes nothing.
 use mathlib.Core.Path.{◌≡◌, ◌∙◌}
-use Prim.Native.Nat.{ℕ}
+use Prim.Native.Nat.{ℕ, ◌≤◌}
 use native.Mathlib.Omega.{arith}
 use borrow.Author.Rules.{rules as search_rules}
 use borrow.Author.Tests.{not-true}
@@ -13,26 +13,29 @@ use Rattle.quantity.specs.Limits.{limits}
 use Rattle.quantity.specs.Ranges.{StreamRange}
 use Rattle.quantity.specs.Standard.{standard_a, standard_b}
 use Rattle.quantity.specs.Streams.{stream_grams}
-use Rattle.sheet.specs.Kinds.{SourceStream, letter, kind}
+use Rattle.quantity.proofs.MethodNumbers.{is_method}
+use Rattle.sheet.specs.Kinds.{letter, kind}
+use Rattle.sheet.specs.declared.Kind.TheVariants.{SourceStream}
 use Rattle.ledger.specs.Moved.{stream_moved}
 use Rattle.entries.specs.Weighed.{or_standard, stream_of}
 use Rattle.entries.specs.Entries.{entry}
 use Rattle.entries.specs.Read.{record_read, LineKeeps, or_standard_word}
 use Rattle.entries.proofs.Ranges.{number_is, standard_is}
-use Rattle.entries.proofs.Streams.{plain_stream_lem, stream-range, eight}
+use Rattle.entries.proofs.Streams.{plain_stream_lem, method_range, stream-range, eight}
 use Rattle.entries.proofs.OfKind.{w, kind_at, is_at, entry_at}
 use Rattle.entries.proofs.weigh_stream.Goals as goal
 
 -- `S,n,method,code,kg,a,b,c,d`: a and b as given, or the standard value
-abbrev given_a : LineRead → ℕ
-given_a l = or_standard_word (w l 4) (standard_a (w l 1) (w l 2))
+abbrev given_a : LineRead → (method : ℕ) → ℕ
+given_a l method = or_standard_word (w l 4) (standard_a method (w l 2))
 
 abbrev given_b : LineRead → ℕ
 given_b l = or_standard_word (w l 5) (standard_b (w l 2))
 
 record StreamLine (l : LineRead) : Type 0 where
-  range : {a b : ℕ} → a ≡ given_a l → b ≡ given_b l → StreamRange (w l 1) (w l 3) a b (w l 6) (w l 7)
-  entry_is : {a b : ℕ} {z : ℤ} → a ≡ given_a l → b ≡ given_b l → z ≡ stream_grams (w l 1) (w l 3) a b (w l 6) (w l 7)
+  method : (1 ≤ w l 1) × (w l 1 ≤ 4)
+  range : {m a b : ℕ} → m ≡ w l 1 → a ≡ given_a l m → b ≡ given_b l → StreamRange (w l 1) (w l 3) a b (w l 6) (w l 7)
+  entry_is : {m a b : ℕ} {z : ℤ} → m ≡ w l 1 → a ≡ given_a l m → b ≡ given_b l → z ≡ stream_grams (w l 1) (w l 3) a b (w l 6) (w l 7)
       → stream_moved (w l 0) z ≡ entry (record_read l)
 
 -- an S line's words are its numbers; a and b give a value or stand for the standard one
@@ -66,7 +69,7 @@ stream_same : (P : (method kilos a b c d : ℕ) → Type 0) (l : LineRead) → S
     → (let r = record_read l in
     P (number_at r 1) (number_at r 3) (or_standard (field r 4) (standard_a (number_at r 1) (number_at r 2)))
     (or_standard (field r 5) (standard_b (number_at r 2))) (number_at r 6) (number_at r 7))
-    → P (w l 1) (w l 3) (given_a l) (given_b l) (w l 6) (w l 7)
+    → P (w l 1) (w l 3) (given_a l (w l 1)) (given_b l) (w l 6) (w l 7)
 stream_same P l s h =
     rw (
       ← s.a (standard_a (w l 1) (w l 2)),
@@ -84,21 +87,25 @@ stream_line l sized keeps e =
     let k = kind_at l SourceStream e in
     let s = stream_words l sized keeps k in
     record {
-      range = λ p q. rw (p, q) (stream_same StreamRange l s (stream-range limits (record_read l) keeps.ranges k));
-      entry_is = λ p q z. rw (z, p, q, ← s.process)
+      method = rw s.method at (method_range limits (record_read l) keeps.ranges k);
+      range = λ m p q. rw (p, q, m) (stream_same StreamRange l s (stream-range limits (record_read l) keeps.ranges k));
+      entry_is = λ m p q z. rw (z, p, q, m, ← s.process)
           (stream_same (λ m kg a b c d. stream_moved (number_at (record_read l) 0) (stream_grams m kg a b c d) ≡ entry (record_read l)) l s
           (rw (is_at l SourceStream e) at (entry_at l SourceStream e)));
     }
 
+pub unwrap-method-requires : goal.unwrap-method-requires
+unwrap-method-requires c =
+    let line = stream_line c.args.l (search search_rules) c.requires.line_keeps c.requires.letter_value in
+    is_method _ _ c.try_from.ensures line.method.0 line.method.1
+
 pub stream-grams-requires : goal.stream-grams-requires
 stream-grams-requires c =
     let line = stream_line c.args.l (search search_rules) c.requires.line_keeps c.requires.letter_value in
-    line.range c.given_a-a.ensures c.given_b-b.ensures
-
-pub stream_entry-requires : goal.stream_entry-requires
-stream_entry-requires c = c.stream-grams.ensures.bounded
+    line.range (rw c.unwrap-method.ensures at c.try_from.ensures) c.given_a-a.ensures c.given_b-b.ensures
 
 pub returns : goal.returns
 returns c =
     let line = stream_line c.args.l (search search_rules) c.requires.line_keeps c.requires.letter_value in
-    c.stream_entry.ensures ∙ line.entry_is c.given_a-a.ensures c.given_b-b.ensures c.stream-grams.ensures.result_value
+    c.stream_entry.ensures
+    ∙ line.entry_is (rw c.unwrap-method.ensures at c.try_from.ensures) c.given_a-a.ensures c.given_b-b.ensures c.stream-grams.ensures.result_value

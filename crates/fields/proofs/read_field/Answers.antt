@@ -1,29 +1,33 @@
 -- `read_field` meets its contract. Assumes nothing.
-use Rattle.fields.proofs.Scanning.{done_none, done_dash, done_one, done_zero, done_many}
+use mathlib.Core.Path.{sym}
+use native.Mathlib.Omega.{arith}
+use Rattle.std.proofs.lemmas.Bool.Decides.{nat_tests}
+use Rattle.fields.specs.declared.Said.TheVariants.{Dash, Other}
+use Rattle.fields.proofs.Scanning.{done, done_digits, said_none, said_dash, said_one, said_zero, said_many}
 use Rattle.fields.proofs.read_field.Goals as goal
+use Rattle.fields.proofs.read_field.Goals.{in_default-via-then-this-lt2+in_default-1, in_default-via-else-this-lt2+in_default-1}
 
-pub returns-then-end-start : goal.returns-then-end-start
-returns-then-end-start c =
-    let d = done_none _ _ _ c.scan_field-f.ensures c.if-end-start.true in
+pub returns-in-45 : goal.returns-in-45
+returns-in-45 c =
+    let d = done _ _ _ c.scan_field-f.ensures Dash (sym (said_dash _ (omega arith) (omega arith))) in
     record { field_read_at = d.0; bounded = d.1 }
 
-pub returns-then-first-eq45 : goal.returns-then-first-eq45
-returns-then-first-eq45 c =
-    let d = done_dash _ _ _ c.scan_field-f.ensures c.if-end-start-2.true c.if-first-eq45.true in
+pub returns-in_default : goal.returns-in_default
+returns-in_default c =
+    let d = done_digits _ _ _ c.scan_field-f.ensures
+    (elim c.in_default.branch [
+      | in_default-via-then-this-lt2+in_default-1 w ↦ said_one _ (grind (arith, nat_tests)) (λ e. grind (arith, nat_tests))
+      | in_default-via-else-this-lt2+in_default-1 w ↦ said_many _ (grind (arith, nat_tests)) (λ e. grind (arith, nat_tests))
+    ])
+    _ c.map_or-said.ensures in
     record { field_read_at = d.0; bounded = d.1 }
 
-pub returns-then-end-start-2 : goal.returns-then-end-start-2
-returns-then-end-start-2 c =
-    let d = done_one _ _ _ c.scan_field-f.ensures c.if-end-start-2.true c.if-first-eq45.false _ c.digits_said.ensures in
+pub returns-in-empty : goal.returns-in-empty
+returns-in-empty c =
+    let d = done _ _ _ c.scan_field-f.ensures Other (sym (said_none _ (omega arith))) in
     record { field_read_at = d.0; bounded = d.1 }
 
-pub returns-then-first-eq48 : goal.returns-then-first-eq48
-returns-then-first-eq48 c =
-    let d = done_zero _ _ _ c.scan_field-f.ensures c.if-end-start.false c.if-end-start-2.false c.if-first-eq48.true in
-    record { field_read_at = d.0; bounded = d.1 }
-
-pub returns : goal.returns
-returns c =
-    let d = done_many _ _ _ c.scan_field-f.ensures c.if-end-start.false c.if-end-start-2.false c.if-first-eq48.false _
-    c.digits_said-2.ensures in
+pub returns-in-empty-2 : goal.returns-in-empty-2
+returns-in-empty-2 c =
+    let d = done _ _ _ c.scan_field-f.ensures Other (sym (said_zero _ (omega arith) (omega arith))) in
     record { field_read_at = d.0; bounded = d.1 }

@@ -1,11 +1,6 @@
--- The loop of `scan_field`: what is scanned so far, and how many bytes are left.
-use Prim.Native.Nat.{◌-◌}
-use lib.ListN.{length}
+-- The loop of `scan_field`: what is scanned so far.
 use Rattle.fields.specs.Scan.{Scanning}
 use Rattle.fields.proofs.scan_field.Given as goal
 
 abbrev pub invariant-loop-end : goal.invariant-loop-end
-invariant-loop-end l = Scanning l.s l.start l.value l.all l.end
-
-abbrev pub decreases-loop-end : goal.decreases-loop-end
-decreases-loop-end l = length l.s - l.end
+invariant-loop-end l = Scanning l.s l.start l.number l.end

@@ -2,12 +2,12 @@
 -- bytes are left.
 use Prim.Native.Nat.{◌-◌}
 use lib.ListN.{length}
-use Rattle.judged.specs.Judged.{sheet_given}
+use Rattle.judged.specs.Judged.{is_lent, bytes_of, list_of, sheet_of}
 use Rattle.judged.proofs.Judging.{JudgingAt}
 use Rattle.judged.proofs.judge_lines.Given as goal
 
 abbrev pub invariant-loop-kilos : goal.invariant-loop-kilos
-invariant-loop-kilos l = JudgingAt l.lent l.s l.records l.size l.kilos l.outputs l.taken l.count l.lines l.at
+invariant-loop-kilos l = JudgingAt (is_lent l.sheet) (bytes_of l.sheet) (list_of l.sheet) l.size l.kilos l.noted l.at
 
 abbrev pub decreases-loop-kilos : goal.decreases-loop-kilos
-decreases-loop-kilos l = length (sheet_given l.lent l.s l.records) - l.at
+decreases-loop-kilos l = length (sheet_of l.sheet) - l.at

@@ -1,11 +1,11 @@
--- `ledger::add_all` meets its contract. The loop's invariant: the column stands up to the processes done. Assumes nothing.
-use Prim.Native.Nat.{◌-◌, ◌≤◌}
-use Rattle.ledger.specs.Columns.{together}
+-- The loop of `add_all`: the figures together of the processes before `k`.
+use Prim.Native.Nat.{◌+◌, ◌-◌, ◌≤◌}
 use Rattle.goods.specs.ByProcess.{Column}
+use Rattle.ledger.specs.Columns.{together}
 use Rattle.ledger.proofs.add_all.Given as goal
 
-abbrev pub invariant-loop-done : goal.invariant-loop-done
-invariant-loop-done l = (l.done ≤ l.count) × (Column l.done (together l.a l.b) l.both)
-
-abbrev pub decreases-loop-done : goal.decreases-loop-done
-decreases-loop-done l = l.count - l.done
+abbrev pub invariant-loop-k : goal.invariant-loop-k
+invariant-loop-k l = record {
+  within : l.k ≤ l.count + 1;
+  both : Column (l.k - 1) (together l.a.0 l.b.0) l.both.0;
+}

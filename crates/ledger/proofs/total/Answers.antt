@@ -1,32 +1,26 @@
--- `ledger::total` meets its contract. The loop's invariant: the sum of the processes done. Assumes nothing.
-use mathlib.Core.Path.{◌≡◌, refl}
-use Prim.Native.Nat.{ℕ, ◌+◌}
-use native.Mathlib.Numerals.{add-one}
+-- `ledger::total` meets its contract: the sum is over processes 1 .. count. Assumes nothing.
+use mathlib.Core.Path.{◌≡◌, ◌∙◌}
+use Prim.Native.Nat.{◌+◌, ◌-◌}
 use native.Mathlib.Omega.{arith}
-use lib.ListN.{get_or}
+use lib.ListN.{take, drop}
+use Rattle.std.specs.List.{sum}
+use Rattle.std.proofs.lemmas.Iterator.{YieldsList-from_slice}
+use Rattle.std.proofs.lemmas.Iterator.Consumers.{sum_from_yields_List, fits_from_yields_list}
 use Rattle.goods.specs.Sums.{sum_to}
-use Rattle.goods.proofs.Sums.{sum_mono, sum_suc}
+use Rattle.goods.specs.ByProcess.{figures}
+use Rattle.ledger.proofs.Inside.{sum_column}
 use Rattle.ledger.proofs.total.Goals as goal
 
--- one process more
-next : (n : ℕ) (f : ℕ → ℕ) → sum_to (n + 1) f ≡ sum_to n f + f (n + 1)
-next n f = rw add-one (sum_suc n f)
-
-pub loop-done-init : goal.loop-done-init
-unfolding sum_to
-loop-done-init c = (omega arith, refl)
-
-pub overflow_add-sum : goal.overflow_add-sum
-overflow_add-sum c =
-    let f : ℕ → ℕ = λ p. get_or c.args.a.now p 0 in
-    let most = sum_mono (c.loop-done.done + 1) c.args.count f (omega arith) in
-    record { fits = omega (arith, next c.loop-done.done f, most, c.loop-done.invariant.1, c.requires.a_bound) }
-
-pub loop-done-preserved : goal.loop-done-preserved
-loop-done-preserved c =
-    (omega arith, omega (arith, next c.loop-done.done (λ (p : ℕ). get_or c.args.a.now p 0), c.loop-done.invariant.1))
+pub sum-requires-clause-fits : goal.sum-requires-clause-fits
+sum-requires-clause-fits c =
+    let part = take (c.args.count + 1 - 1) (drop 1 c.args.a.now.0) in
+    let n : c.args.count + 1 - 1 ≡ c.args.count = omega arith in
+    let all : sum part ≡ sum_to c.args.count (figures c.args.a.now.0) = rw n (sum_column c.args.count c.args.a.now.0 (omega arith)) in
+    fits_from_yields_list c.iter.result _ (YieldsList-from_slice part c.iter.ensures.rest) (omega (arith, all, c.requires.a_bound))
 
 pub returns : goal.returns
 returns c =
-    let e : c.loop-done.done ≡ c.args.count = omega arith in
-    rw (← e) c.loop-done.invariant.1
+    let part = take (c.args.count + 1 - 1) (drop 1 c.args.a.now.0) in
+    let n : c.args.count + 1 - 1 ≡ c.args.count = omega arith in
+    let all : sum part ≡ sum_to c.args.count (figures c.args.a.now.0) = rw n (sum_column c.args.count c.args.a.now.0 (omega arith)) in
+    sum_from_yields_List c.iter.result c.sum.result c.sum.ensures.ran (YieldsList-from_slice part c.iter.ensures.rest) ∙ all

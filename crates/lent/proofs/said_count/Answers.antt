@@ -1,35 +1,38 @@
 -- `said_count` meets its contract. Assumes nothing.
-use mathlib.Core.Path.{sym, ap, ◌∙◌}
-use Prim.Native.Nat.{ℕ}
+use mathlib.Core.Path.{◌≡◌, sym, ◌∙◌}
+use mathlib.Core.Bool.{Bool}
+use mathlib.Core.List.{List}
+use Prim.Native.Nat.{ℕ, ◌+◌, ◌-◌}
 use native.Mathlib.Omega.{arith}
-use borrow.Author.Tests.{ne_eqb}
+use borrow.Author.Rules.{rules}
+use borrow.Author.Tests.{tests}
 use lib.Dec.{eqb}
-use Rattle.lent.proofs.Counts.{count_few, count_kind, count_all}
+use lib.ListN.{length, take, drop}
+use Rattle.std.specs.List.{list_all}
+use Rattle.std.proofs.lemmas.Iterator.{YieldsList-from_slice}
+use Rattle.std.proofs.lemmas.Iterator.Search.{all_from_yields_List}
+use Rattle.lent.specs.Lent.{all_zero}
+use Rattle.lent.proofs.Counts.{zeros_from, count_few, count_kind, count_all}
 use Rattle.lent.proofs.said_count.Goals as goal
+use Rattle.lent.proofs.said_count.Goals.{else-count-behind-via-then-count-behind+else-all, else-count-behind-via-else-count-behind}
 
-pub returns-then-behind-count : goal.returns-then-behind-count
-returns-then-behind-count c =
-    let is = c.requires.count_value in
-    record { value = sym (count_few _ _ is.0 is.1 (omega arith)); bounded = omega arith }
+-- whether the words past the kind's fields are 0
+returned : (words : List ℕ) (count : ℕ) (b : Bool) → b ≡ list_all (λ w. eqb w 0) (take (length words - (count + 1)) (drop (count + 1) words))
+    → all_zero (drop (count + 1) words) ≡ b
+returned words count b e = zeros_from words (count + 1) ∙ sym e
 
-pub returns-then-spare_bits-eq0 : goal.returns-then-spare_bits-eq0
-returns-then-spare_bits-eq0 c =
+pub returns-then-all-clause-value : goal.returns-then-all-clause-value
+returns-then-all-clause-value c =
     let is = c.requires.count_value in
-    let zero = sym c.spare_bits.ensures ∙ ap (λ (bits : ℕ). eqb bits 0) c.if-spare_bits-eq0.true in
-    record { value = sym (count_kind _ _ is.0 is.1 (omega arith) zero); bounded = omega arith }
+    let all = all_from_yields_List (λ w. eqb w 0) _ _ _ c.all.ensures.ran (YieldsList-from_slice _ c.iter.ensures.rest) (λ x b q k. search (rules, tests)) in
+    sym (count_kind _ _ is.0 is.1 (omega arith) (returned c.args.words.now c.args.count _ all ∙ c.if-all.true))
 
-pub returns-then-words-eq-RECORD : goal.returns-then-words-eq-RECORD
-returns-then-words-eq-RECORD c =
+pub returns-else-count-behind-clause-value : goal.returns-else-count-behind-clause-value
+returns-else-count-behind-clause-value c =
     let is = c.requires.count_value in
-    let all = count_all _ _ is.0 is.1 (sym c.spare_bits.ensures ∙ ne_eqb _ 0 c.if-spare_bits-eq0.false) in
-    record { value = omega (arith, all); bounded = omega arith }
-
-pub returns-then-all_zero : goal.returns-then-all_zero
-returns-then-all_zero c =
-    let is = c.requires.count_value in
-    record { value = sym (count_kind _ _ is.0 is.1 (omega arith) (sym c.all_zero.ensures ∙ c.if-all_zero.true)); bounded = omega arith }
-
-pub returns : goal.returns
-returns c =
-    let is = c.requires.count_value in
-    record { value = sym (count_all _ _ is.0 is.1 (sym c.all_zero.ensures ∙ c.if-all_zero.false)); bounded = omega arith }
+    elim c.else-count-behind.branch [
+      | else-count-behind-via-then-count-behind+else-all w ↦
+          let all = all_from_yields_List (λ w. eqb w 0) _ _ _ w.all.ensures.ran (YieldsList-from_slice _ w.iter.ensures.rest) (λ x b q k. search (rules, tests)) in
+          sym (count_all _ _ is.0 is.1 (returned c.args.words.now c.args.count _ all ∙ w.if-all.false))
+      | else-count-behind-via-else-count-behind w ↦ sym (count_few _ _ is.0 is.1 (omega arith))
+    ]

@@ -1,5 +1,6 @@
 -- `line_start` meets its contract. Assumes nothing.
-use mathlib.Core.Path.{◌∙◌}
+use mathlib.Core.Path.{◌≡◌, ◌∙◌}
+use Prim.Native.Nat.{◌+◌, ◌-◌, ◌<◌, ◌≤◌}
 use native.Mathlib.Omega.{arith}
 use lib.ListN.{drop}
 use Rattle.lines.specs.Lines.{lines_of}
@@ -8,15 +9,17 @@ use Rattle.places.proofs.line_start.Goals as goal
 
 pub returns-then-s-start : goal.returns-then-s-start
 returns-then-s-start c =
-    let z = start_past c.args.s.now c.loop-left.start c.loop-left.left c.if-s-start.true in
-    omega (arith, c.loop-left.invariant)
+    let z = start_past c.args.s.now c.loop.start (c.args.line + 1 - c.loop.counter) c.if-s-start.true in
+    omega (arith, c.loop.invariant)
 
-pub loop-left-preserved : goal.loop-left-preserved
-loop-left-preserved c =
-    start_later _ c.loop-left.start _ c.loop-left.left c.if-s-start.false c.line_end-start.ensures.value c.loop-left-test.true
-    ∙ c.loop-left.invariant
+pub loop-preserved : goal.loop-preserved
+loop-preserved c =
+    let more : 1 < c.args.line + 1 - c.loop.counter = omega arith in
+    let left : c.args.line + 1 - (c.loop.counter + 1) ≡ c.args.line + 1 - c.loop.counter - 1 = omega arith in
+    rw left (start_later _ c.loop.start _ (c.args.line + 1 - c.loop.counter) c.if-s-start.false c.line_end-start.ensures.value more ∙ c.loop.invariant)
 
 pub returns : goal.returns
 returns c =
-    let z = start_first (lines_of (drop c.loop-left.start c.args.s.now)) c.loop-left.left c.loop-left-test.false in
-    omega (arith, c.loop-left.invariant)
+    let few : c.args.line + 1 - c.loop.counter ≤ 1 = omega arith in
+    let z = start_first (lines_of (drop c.loop.start c.args.s.now)) (c.args.line + 1 - c.loop.counter) few in
+    omega (arith, c.loop.invariant)

@@ -4,9 +4,8 @@ use lib.ListN.{length}
 use Rattle.records.specs.Reading.{ReadSoFar}
 use Rattle.records.proofs.read_on.Given as goal
 
-abbrev pub invariant-loop-end : goal.invariant-loop-end
-invariant-loop-end l =
-    ReadSoFar l.s l.start (record { letter = l.letter; count = l.count; words = l.words; end = l.end })
+abbrev pub invariant-loop-field : goal.invariant-loop-field
+invariant-loop-field l = ReadSoFar l.s l.start l.l
 
-abbrev pub decreases-loop-end : goal.decreases-loop-end
-decreases-loop-end l = length l.s - l.end
+abbrev pub decreases-loop-field : goal.decreases-loop-field
+decreases-loop-field l = length l.s - l.l.end

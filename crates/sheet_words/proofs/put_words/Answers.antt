@@ -7,7 +7,6 @@ use native.Mathlib.Nat.{add-zero}
 use native.Mathlib.Numerals.{add-one}
 use lib.ListN.{length, take, set, get_or, length-set, length-map}
 use lib.Seq.{take-suc, take_all, length-take-le}
-use borrow.Author.Rules.{rules}
 use Rattle.lines.specs.Words.{WORDS}
 use Rattle.lines.specs.declared.LineRead.{LineRead}
 use Rattle.lent.specs.Lent.{RECORD}
@@ -45,24 +44,15 @@ whole l at r m k room all e p =
     then (omega arith) one (rw (take_all k r.words all, stop) at p)
 
 pub loop-k-init : goal.loop-k-init
-loop-k-init c = (
-  omega arith,
-  omega (arith, length-set c.args.list.now c.args.at c.args.l.letter),
-  search rules,
-  rw add-zero (put_none _ _),
-)
+loop-k-init c = (omega (arith, length-set c.args.list.now c.args.at c.from.result), rw add-zero (put_none _ _))
 
 pub bounds-list-first : goal.bounds-list-first
-bounds-list-first c = omega (arith, kept _ _ _ (omega arith) _ c.loop-k.k c.loop-k.invariant.3 (omega arith))
+bounds-list-first c = omega (arith, kept _ _ _ (omega arith) _ c.loop-k.k c.loop-k.invariant.1 (omega arith))
 
 pub loop-k-preserved : goal.loop-k-preserved
 loop-k-preserved c =
     let v = c.loop-k.invariant in
-    (omega arith, v.1, v.2, more _ _ _ (omega arith) _ c.loop-k.k v.3 _ (omega arith) c.as_lent.ensures)
-
-pub shape_of-list : goal.shape_of-list
-shape_of-list c =
-    kept _ _ _ (omega arith) _ c.loop-k.k c.loop-k.invariant.3 (omega arith) ∙ length-set c.args.list.now c.args.at c.args.l.letter
+    (v.0, more _ _ _ (omega arith) _ c.loop-k.k v.1 _ (omega arith) c.as_lent.ensures)
 
 pub returns : goal.returns
-returns c = whole _ _ _ _ c.loop-k.k (omega arith) (omega arith) (omega arith) c.loop-k.invariant.3
+returns c = whole _ _ _ _ c.loop-k.k (omega arith) (omega arith) (omega arith) (rw c.from.ensures at c.loop-k.invariant.1)

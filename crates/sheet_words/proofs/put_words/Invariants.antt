@@ -1,7 +1,6 @@
--- The loop of `put_words`: the words of the fields before the k-th are put behind the letter. The measure is how many fields are left.
-use mathlib.Core.Path.{◌≡◌}
+-- The loop of `put_words`: the words of the fields before the k-th are put behind the letter.
 use mathlib.Core.List.{map}
-use Prim.Native.Nat.{◌+◌, ◌-◌, ◌≤◌}
+use Prim.Native.Nat.{◌+◌, ◌≤◌}
 use lib.ListN.{length, take}
 use Rattle.lines.specs.Words.{WORDS}
 use Rattle.decimal.specs.Writing.{Put}
@@ -10,8 +9,4 @@ use Rattle.sheet_words.proofs.put_words.Given as goal
 
 abbrev pub invariant-loop-k : goal.invariant-loop-k
 invariant-loop-k l =
-    (l.k ≤ WORDS) × (l.first + WORDS ≤ length l.initial.list) × (length l.words ≡ WORDS)
-    × Put l.initial.list l.first (map as_lent (take l.k l.words)) l.list (l.first + l.k)
-
-abbrev pub decreases-loop-k : goal.decreases-loop-k
-decreases-loop-k l = WORDS - l.k
+    (l.first + WORDS ≤ length l.initial.list) × Put l.initial.list l.first (map as_lent (take l.k l.fn.l.words)) l.list (l.first + l.k)

@@ -1,26 +1,11 @@
 -- `standard_emission_factor` meets its contract: the constant array is the second column of `fuels` divided by 100. Assumes nothing.
-use borrow.Author.Rules.{rules}
-use native.Mathlib.Omega.{arith}
 use Rattle.quantity.specs.Standard.{fuels}
-use Rattle.quantity.proofs.Tables.{emission_factors, at_none, at_past}
-use Rattle.standard.proofs.Divided.{emission_factors_found, held_fits, product_fits}
+use Rattle.quantity.proofs.Tables.{factor_small}
+use Rattle.standard.proofs.Divided.{emission_factor_is}
 use Rattle.standard.proofs.standard_emission_factor.Goals as goal
-
-pub returns-then-code-eq0 : goal.returns-then-code-eq0
-returns-then-code-eq0 c = record { value = at_none emission_factors c.args.code c.if-code-eq0.true; bounded = omega arith }
-
-pub overflow_cast-result-then-code-le16-2 : goal.overflow_cast-result-then-code-le16-2
-overflow_cast-result-then-code-le16-2 c = search (rules, held_fits)
-
-pub overflow_mul-result : goal.overflow_mul-result
-overflow_mul-result c = search (rules, product_fits)
-
-pub returns-then-code-le16 : goal.returns-then-code-le16
-unfolding fuels
-returns-then-code-le16 c =
-    let found = emission_factors_found c.args.code c.if-code-eq0.false in
-    record { value = found.0; bounded = found.1 }
 
 pub returns : goal.returns
 unfolding fuels
-returns c = record { value = at_past emission_factors c.args.code c.if-code-le16.false; bounded = omega arith }
+returns c =
+    let e = emission_factor_is c.args.code c.looked_up.result c.looked_up.ensures.none c.looked_up.ensures.held in
+    record { value = e; bounded = rw e (factor_small c.args.code) }

@@ -1,46 +1,25 @@
 -- `next_field` meets its contract. Assumes nothing.
-use mathlib.Core.Path.{sym, ◌∙◌}
-use native.Mathlib.Omega.{arith}
-use Rattle.steps.proofs.Steps.{ahead_inside, step_tried, step_none, step_done}
+use mathlib.Core.Path.{◌≡◌, sym, ◌∙◌}
+use Rattle.std.specs.Prelude.{Some}
+use Rattle.std.proofs.Common.{rules}
+use Rattle.fields.specs.declared.Stop.TheVariants.{Comma}
+use Rattle.steps.proofs.Steps.{tried_comma, tried_none, step_tried, step_none, step_done}
 use Rattle.steps.proofs.next_field.Goals as goal
 
-pub overflow_add-at : goal.overflow_add-at
-overflow_add-at c =
-    let h = ahead_inside c.args.s.now c.args.f.end (c.requires.ahead c.if-f.true) in
-    omega arith
+pub returns-in_default-clause-value : goal.returns-in_default-clause-value
+returns-in_default-clause-value c = step_none _ _ (tried_none _ (λ e. search rules))
 
-pub short_field-field-requires : goal.short_field-field-requires
-short_field-field-requires c =
-    let a = c.requires.ahead c.if-f.true in
-    (ahead_inside c.args.s.now c.args.f.end a, a.0)
+pub returns-in_default-2-clause-value : goal.returns-in_default-2-clause-value
+returns-in_default-2-clause-value c = step_none _ _ (tried_none _ (λ e. search rules))
 
-pub overflow_add-result : goal.overflow_add-result
-overflow_add-result c =
-    let h = ahead_inside c.args.s.now c.args.f.end (c.requires.ahead c.if-f.true) in
-    omega (arith, c.requires.count_le_end)
-
-pub returns-in-Next : goal.returns-in-Next
-returns-in-Next c =
-    let d = step_done _ _ c.requires.ahead c.requires.count_le_end _ (step_tried _ _ c.if-f.true _ (sym c.in-Next.is ∙ c.short_field-field.ensures)) in
-    record { value = d.0; bounded = d.1 }
-
-pub overflow_add-result-in-Last : goal.overflow_add-result-in-Last
-overflow_add-result-in-Last c =
-    let h = ahead_inside c.args.s.now c.args.f.end (c.requires.ahead c.if-f.true) in
-    omega (arith, c.requires.count_le_end)
-
-pub returns-in-Last : goal.returns-in-Last
-returns-in-Last c =
-    let d = step_done _ _ c.requires.ahead c.requires.count_le_end _ (step_tried _ _ c.if-f.true _ (sym c.in-Last.is ∙ c.short_field-field.ensures)) in
-    record { value = d.0; bounded = d.1 }
-
-pub returns-in-Another : goal.returns-in-Another
-returns-in-Another c =
+pub returns-in-Some : goal.returns-in-Some
+returns-in-Some c =
+    let m : c.args.f.stop ≡ Some Comma = search rules in
     let d = step_done _ _ c.requires.ahead c.requires.count_le_end _
-    (c.stay.ensures ∙ step_tried _ _ c.if-f.true _ (sym c.in-Another.is ∙ c.short_field-field.ensures)) in
+    (step_tried _ _ (tried_comma _ m) _ (sym c.in-Some.is ∙ c.short_field.ensures)) in
     record { value = d.0; bounded = d.1 }
 
-pub returns : goal.returns
-returns c =
-    let d = step_done _ _ c.requires.ahead c.requires.count_le_end _ (c.stay-2.ensures ∙ step_none _ _ c.if-f.false) in
-    record { value = d.0; bounded = d.1 }
+pub returns-in-None-clause-value : goal.returns-in-None-clause-value
+returns-in-None-clause-value c =
+    let m : c.args.f.stop ≡ Some Comma = search rules in
+    step_tried _ _ (tried_comma _ m) _ (sym c.in-None.is ∙ c.short_field.ensures)

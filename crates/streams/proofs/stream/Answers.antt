@@ -1,14 +1,11 @@
--- `stream` meets its contract: before the biomass step, the step, the sign. Assumes nothing.
-use mathlib.Core.Path.{◌≡◌}
-use native.Mathlib.Omega.{arith}
-use Rattle.quantity.specs.Streams.{stream_grams}
-use Rattle.quantity.proofs.Methods.{counted_minus, counted_plus}
+-- `stream` meets its contract: a number's stream is that of the method reckoned by. Assumes nothing.
+use mathlib.Core.Path.{◌∙◌}
+use Rattle.streams.proofs.ByNumber.{same_range, same_grams}
 use Rattle.streams.proofs.stream.Goals as goal
 
-pub returns-in-4-clause-result_value : goal.returns-in-4-clause-result_value
-unfolding stream_grams
-returns-in-4-clause-result_value c = cc (counted_minus c.fossil.result.0 c.in-4.is)
+pub of_method-requires : goal.of_method-requires
+of_method-requires c = rw c.unwrap_or-method.ensures (same_range c.args.method _ _ _ _ _ _ c.try_from.ensures c.requires)
 
-pub returns-in_default-clause-result_value : goal.returns-in_default-clause-result_value
-unfolding stream_grams
-returns-in_default-clause-result_value c = cc (counted_plus c.fossil-in_default.result.0 (λ (e : c.args.method ≡ 4). absurd (omega arith)))
+pub returns-clause-result_value : goal.returns-clause-result_value
+returns-clause-result_value c =
+    c.of_method.ensures.result_value ∙ rw c.unwrap_or-method.ensures (same_grams c.args.method _ _ _ _ _ _ c.try_from.ensures)

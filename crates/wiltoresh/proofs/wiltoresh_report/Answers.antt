@@ -2,4 +2,4 @@
 use Rattle.wiltoresh.proofs.wiltoresh_report.Goals as goal
 
 pub returns : goal.returns
-returns c = c.report-answer.ensures
+returns c = rw c.from-answer.ensures c.report.ensures

@@ -2,4 +2,4 @@
 use Rattle.wiltoresh_records.proofs.wiltoresh_read.Goals as goal
 
 pub returns : goal.returns
-returns c = c.read-answer.ensures
+returns c = rw c.from-answer.ensures c.read.ensures

@@ -2,4 +2,4 @@
 use Rattle.wiltoresh_records.proofs.wiltoresh_write.Goals as goal
 
 pub returns : goal.returns
-returns c = c.write-answer.ensures
+returns c = rw c.from-answer.ensures c.write.ensures

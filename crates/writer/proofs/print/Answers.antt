@@ -1,6 +1,5 @@
 -- `writer::print` meets its contract. Assumes nothing.
 use borrow.Author.Rules.{rules}
-use mathlib.Core.Path.{sym, ◌∙◌}
 use Prim.Native.Nat.{ℕ, ◌+◌, ◌≤◌}
 use native.Mathlib.Omega.{arith}
 use lib.ListN.{length}
@@ -17,33 +16,29 @@ put_inside {space} {bytes} p h =
     let l : 0 + length bytes ≤ length space = omega (arith, p.place) in
     rw (p.bytes_are, length_written space 0 bytes l) h
 
-pub returns-then-number-ne0 : goal.returns-then-number-ne0
-returns-then-number-ne0 c =
-    let number = c.refusal_number-number.ensures in
-    let some = c.if-number-ne0.true in
+pub returns-in-Err : goal.returns-in-Err
+returns-in-Err c =
     let before = c.args.space.now in
     let put = c.put_refusal.ensures in
     -- the array has LONGEST places
     let room : LONGEST ≤ length before = search rules in
     let inside = put_inside put.put (omega (arith, put.bounded, room)) in
-    record { put = rw (printed_refusal _ before _ c.reckon-r.ensures.reckoned (λ z. some (number ∙ z))) (rw number at put.put); bounded = inside }
+    record { put = rw (printed_refusal _ before _ c.in-Err.ensures.reckoned) (rw c.from.ensures at put.put); bounded = inside }
 
 pub put_report-requires : goal.put_report-requires
 put_report-requires c =
-    let zero = sym c.refusal_number-number.ensures ∙ c.if-number-ne0.false in
-    let answer = c.reckon-r.ensures.reckoned in
+    let answer = c.in-Ok.ensures.reckoned in
     let space = c.args.space.now in
     let room : LONGEST ≤ length space = search rules in
-    (can_be_written _ _ (answer.figured zero), omega (arith, report_short _ space _ answer zero, room))
+    (can_be_written _ _ answer.figured, omega (arith, report_short _ space _ answer, room))
 
-pub returns : goal.returns
-returns c =
-    let zero = sym c.refusal_number-number.ensures ∙ c.if-number-ne0.false in
-    let answer = c.reckon-r.ensures.reckoned in
+pub returns-in-Ok : goal.returns-in-Ok
+returns-in-Ok c =
+    let answer = c.in-Ok.ensures.reckoned in
     let before = c.args.space.now in
     let put = c.put_report.ensures in
     let room : LONGEST ≤ length before = search rules in
     record {
-      put = rw (printed_report _ before _ answer zero) put;
-      bounded = put_inside put (omega (arith, report_short _ before _ answer zero, put.place, room));
+      put = rw (printed_report _ before _ answer) put;
+      bounded = put_inside put (omega (arith, report_short _ before _ answer, put.place, room));
     }

@@ -1,18 +1,12 @@
 -- `field` meets its contract. Assumes nothing.
 use mathlib.Core.Path.{◌∙◌}
 use Rattle.checks.specs.Steps.{word_number}
-use Rattle.checks.proofs.Chain.{kept, judged}
 use Rattle.checks.proofs.shape.field.Goals as goal
-
-pub returns-then-refusal_number-ne0 : goal.returns-then-refusal_number-ne0
-returns-then-refusal_number-ne0 c = kept _ _ _ c.refusal_number.ensures c.if-refusal_number-ne0.true
 
 pub returns-then-lowest-word : goal.returns-then-lowest-word
 unfolding word_number
-returns-then-lowest-word c = judged _ _ _ _ c.refusal_number.ensures c.if-refusal_number-ne0.false (simp c.if-lowest-word.true)
+returns-then-lowest-word c = simp c.if-lowest-word.true
 
-pub returns : goal.returns
+pub returns-else-lowest-word : goal.returns-else-lowest-word
 unfolding word_number
-returns c =
-    judged _ _ _ _ c.refusal_number.ensures c.if-refusal_number-ne0.false
-    (c.outside.ensures ∙ simp c.if-lowest-word.false)
+returns-else-lowest-word c = c.outside.ensures ∙ simp c.if-lowest-word.false

@@ -1,26 +1,25 @@
--- `field_or_dash` meets its contract. Assumes nothing.
-use mathlib.Core.Path.{◌∙◌}
+-- `field_or_dash` meets its contract: `-` has no number whether or not it is in the range. Assumes nothing.
+use mathlib.Core.Path.{◌≡◌, refl, ◌∙◌}
+use mathlib.Core.Bool.{Bool, true, false, cond, ◌&&◌}
+use Prim.Native.Nat.{ℕ}
 use borrow.Author.Tests.{eq-eqb, ne_eqb}
+use lib.Dec.{eqb, leb}
+use Rattle.lines.specs.Words.{DASH, OTHER}
 use Rattle.checks.specs.Steps.{word_number}
-use Rattle.checks.proofs.Chain.{kept, judged}
 use Rattle.checks.proofs.shape.field_or_dash.Goals as goal
 
-pub returns-then-refusal_number-ne0 : goal.returns-then-refusal_number-ne0
-returns-then-refusal_number-ne0 c = kept _ _ _ c.refusal_number.ensures c.if-refusal_number-ne0.true
-
-pub returns-then-lowest-word : goal.returns-then-lowest-word
+-- `-` in the range or not
+no_number : (word lowest highest : ℕ) → eqb word DASH ≡ true → 0 ≡ word_number lowest highest true word
 unfolding word_number
-returns-then-lowest-word c = judged _ _ _ _ c.refusal_number.ensures c.if-refusal_number-ne0.false (simp c.if-lowest-word.true)
+no_number word lowest highest e = go (leb lowest word && leb word highest)
+  where
+    go : (t : Bool) → ◌≡◌ {A = ℕ} 0 (cond t 0 (cond (eqb word DASH) 0 (cond (eqb word OTHER) 6 7)))
+    go true = refl
+    go false = simp e
 
 pub returns-then-word-eq-DASH : goal.returns-then-word-eq-DASH
-unfolding word_number
-returns-then-word-eq-DASH c =
-    judged _ _ _ _ c.refusal_number.ensures c.if-refusal_number-ne0.false
-    (simp (c.if-lowest-word.false, eq-eqb _ _ c.if-word-eq-DASH.true))
+returns-then-word-eq-DASH c = no_number _ _ _ (eq-eqb _ _ c.if-word-eq-DASH.true)
 
-pub returns : goal.returns
+pub returns-else-word-eq-DASH : goal.returns-else-word-eq-DASH
 unfolding word_number
-returns c =
-    let no = ne_eqb _ _ c.if-word-eq-DASH.false in
-    judged _ _ _ _ c.refusal_number.ensures c.if-refusal_number-ne0.false
-    (c.outside.ensures ∙ simp (c.if-lowest-word.false, no))
+returns-else-word-eq-DASH c = c.field.ensures ∙ simp (ne_eqb _ _ c.if-word-eq-DASH.false)

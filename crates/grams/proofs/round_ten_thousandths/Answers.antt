@@ -1,8 +1,0 @@
--- `round_ten_thousandths` meets its contract: (u + 5,000)/10,000 is `round`. Assumes nothing.
-use native.Mathlib.Omega.{arith}
-use Rattle.quantity.specs.Rounding.{round}
-use Rattle.grams.proofs.round_ten_thousandths.Goals as goal
-
-pub returns : goal.returns
-unfolding round
-returns c = record { value = omega arith; bounded = omega arith }

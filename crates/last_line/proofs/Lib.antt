@@ -1,3 +1,0 @@
--- Laws that the proofs cite.
-mod Signed
-mod Totals

@@ -1,2 +1,0 @@
--- For the reader: Refused.
-pub mod Refused

@@ -1,2 +1,0 @@
--- Laws of the amounts of an entry.
-pub mod Amounts
