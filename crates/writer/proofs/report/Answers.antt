@@ -1,7 +1,7 @@
 -- `writer::report` meets its contract: number, line, length and every byte of the report space. Assumes nothing.
 use mathlib.Core.Path.{◌∙◌}
 use native.Mathlib.Omega.{arith}
-use Rattle.checks.proofs.Judged.{handed_back}
+use Rattle.std.proofs.lemmas.Result.{err_from_is_err_and}
 use Rattle.answers.proofs.Within.{written_within}
 use Rattle.writer.proofs.Job.{can_be_written, report_short, refused_outcome, accepted_within, long_enough}
 use Rattle.writer.proofs.report.Goals as goal
@@ -10,7 +10,8 @@ pub returns-in_err-r : goal.returns-in_err-r
 returns-in_err-r c =
     let space = c.args.space.now in
     let e = refused_outcome _ space _ c.in_err-r.ensures.reckoned in
-    rw (handed_back _ _ c.from_residual.ensures.1) (record { space_after = e; long_enough = long_enough _ space _ e })
+    let given = err_from_is_err_and c.from_residual.result c.from_residual.ensures.1 in
+    rw (given.1, given.2) (record { space_after = e; long_enough = long_enough _ space _ e })
 
 pub put_within-requires : goal.put_within-requires
 put_within-requires c =
