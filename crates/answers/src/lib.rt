@@ -46,6 +46,8 @@ impl From<Result<usize, Refused>> for Answer {
 }
 
 // Writes a refusal's number, a comma, its line number and LF.
+// Number and line are two parameters: a public function asks no more of its callers, and a `Refused` rules out numbers that it takes.
+#[tactic(auto, using(decimal::proofs::Widths::twenty))]
 pub fn put_refusal(space: &mut [u8], number: u64, line: usize) -> usize
     requires { LONGEST ≤ length space.old }
     ensures put { Put space.old 0 (printed (refused number line) []) space.new result }
@@ -58,9 +60,10 @@ pub fn put_refusal(space: &mut [u8], number: u64, line: usize) -> usize
 }
 
 // The report of an accepted sheet, in a space that may be too short: it is written apart, and so measured, before the space is touched.
-pub fn put_within(space: &mut [u8], r: Reckoning) -> Result<usize, Refused>
-    requires { (CanBeWritten r) × (length (bytes_held r) ≤ LONGEST) }
-    ensures { gives (answer_of result) space.new ≡ outcome_within (bytes_held r) space.old }
+#[tactic(auto, unfolding(decimal::specs::Writing::written, sheet::specs::Verdict::first_of))]
+pub fn put_within(space: &mut [u8], r: &Reckoning) -> Result<usize, Refused>
+    requires { (CanBeWritten r.now) × (length (bytes_held r.now) ≤ LONGEST) }
+    ensures { gives (answer_of result) space.new ≡ outcome_within (bytes_held r.now) space.old }
 {
     let mut bytes = [0u8; LONGEST];
     let length = put_report(&mut bytes, r);

@@ -20,15 +20,12 @@ fn main(rt: HostRuntime) {
     }
     let mut space = [0u8; LONGEST];
     let length = writer::print(&sheet[..got], &mut space);
-    match rt.stdout().write_all(&space[..length]) {
-        Ok(()) => {}
-        Err(_) => tell(rt, b"carbon: not all could be written\n"),
+    if rt.stdout().write_all(&space[..length]).is_err() {
+        tell(rt, b"carbon: not all could be written\n");
     }
 }
 
 // A fault in words on standard error, which may fail too.
 fn tell(rt: HostRuntime, words: &[u8]) {
-    match rt.stderr().write_all(words) {
-        Ok(()) | Err(_) => {}
-    }
+    let _ = rt.stderr().write_all(words);
 }

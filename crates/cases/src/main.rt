@@ -7,6 +7,7 @@
 ghost use Rattle.std.specs.Prelude.{◌+◌, ◌≤◌};
 
 use answers::Answer;
+use checks::refusals::Refusal;
 use input::read_full;
 use std::io::Stdin;
 
@@ -81,8 +82,7 @@ fn round_trip(sheet: &[u8], case: Case) -> bool {
     let mut space = [FILL; WRITTEN];
     match sheet_reader::read(sheet, &mut list) {
         Err(refused) => (u64::from(refused.refusal) == case.number) & (refused.line == case.line),
-        // 16: the report space of the case is too short
-        Ok(_) if (case.number != 0) & (case.number != 16) => false,
+        Ok(_) if (case.number != 0) & (case.number != u64::from(Refusal::SpaceTooShort)) => false,
         Ok(count) if RECORDS < count => false,
         Ok(count) => match sheet_writer::write(&list[..9 * count], &mut space) {
             Ok(length) => (length == sheet.len()) & space.starts_with(sheet),
@@ -126,7 +126,5 @@ fn main(rt: HostRuntime) {
             _ => different += 1,
         }
     }
-    match println!(rt; "{tried} cases, different: {different}") {
-        Ok(()) | Err(_) => {}
-    }
+    let _ = println!(rt; "{tried} cases, different: {different}");
 }

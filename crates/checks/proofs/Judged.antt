@@ -1,9 +1,12 @@
 -- What is judged by itself: its number is 0 exactly where nothing is refused. Assumes nothing.
-use mathlib.Core.Path.{◌≡◌, refl, ap}
+use mathlib.Core.Path.{◌≡◌, refl, sym, ap}
+use mathlib.Core.Bool.{true≢false}
 use native.Mathlib.Omega.{arith}
-use Rattle.std.specs.Prelude.{Result, Ok, Err, ⊤, IsErrAnd, MatchResult}
+use Rattle.std.specs.Prelude.{ℕ, Result, Ok, Err, ⊤}
+use Rattle.std.specs.Result.{MatchResult, IsErrAnd, is_ok}
 use Rattle.checks.specs.Numbers.{refusal_number, number_judged}
 use Rattle.checks.specs.declared.refusals.Refusal.{Refusal}
+use Rattle.checks.specs.declared.refusals.Refused.{Refused}
 use Rattle.checks.specs.declared.refusals.Refusal.TheVariants.{TooManyBytes, TooManyLines, LacksLF, UnknownKind}
 use Rattle.checks.specs.declared.refusals.Refusal.TheVariants.{WrongFieldCount, NotNumber, OutOfRange, ProcessNotNext}
 use Rattle.checks.specs.declared.refusals.Refusal.TheVariants.{MissingProcess, EndsNotAllowed, NoStandardValue, SecondOfPair}
@@ -28,14 +31,15 @@ some_number EmptySheet e = absurd (omega (arith, e))
 some_number FigureTooLarge e = absurd (omega (arith, e))
 some_number SpaceTooShort e = absurd (omega (arith, e))
 
-pub none_judged : (r : Result ⊤ Refusal) → ((e : Refusal) → r ≡ Err e → ⊥) → number_judged r ≡ 0
-none_judged (Ok x) h = refl
-none_judged (Err e) h = absurd (h e refl)
+-- what is judged, and the same after `map_err`, where a refusal becomes one with its line
+module _ (Made : Refusal → Refused → Type 0) where
+  pub none_made : (r : Result ⊤ Refusal) (q : Result ⊤ Refused) (x : ⊤) → MatchResult r (λ z. q ≡ Ok z) (λ e. IsErrAnd q (Made e)) → q ≡ Ok x
+      → number_judged r ≡ 0
+  none_made (Ok _) q x h e = refl
+  none_made (Err d) q x h e = absurd (rw e at h)
 
--- what a `?` hands on is the error that it was given
-pub handed_back : {T E : Type 0} (q : Result T E) (e : E) → IsErrAnd q (λ x. x ≡ e) → q ≡ Err e
-handed_back (Ok x) e h = absurd h
-handed_back (Err x) e h = ap Err h
-
-pub handed_on : {T E : Type 0} (q : Result T E) (e : E) (P : T → Type 0) (Q : E → Type 0) → IsErrAnd q (λ x. x ≡ e) → Q e → MatchResult q P Q
-handed_on q e P Q h y = rw (handed_back q e h) y
+  pub some_made : (r : Result ⊤ Refusal) (q : Result ⊤ Refused) (y : Refused) → MatchResult r (λ z. q ≡ Ok z) (λ e. IsErrAnd q (Made e)) → q ≡ Err y
+      → (e : Refusal) × (r ≡ Err e) × Made e y
+  some_made (Ok x) (Ok z) y h e = absurd (true≢false (ap is_ok e))
+  some_made (Ok x) (Err z) y h e = absurd (true≢false (sym (ap is_ok h)))
+  some_made (Err d) q y h e = (d, refl, rw e at h)

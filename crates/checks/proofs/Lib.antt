@@ -1,5 +1,4 @@
 -- Laws that the crates above cite.
 pub mod Chain
 pub mod Fitting
-pub mod Kind
 pub mod Judged

@@ -3,8 +3,8 @@ use quantity::Kilos;
 
 // What the lines above a line say: how many they are, and how many of them are P lines. Of an own good: the output of its process
 // `from`, the kilograms that G lines above take of it, and those that a G line above took for the same two processes, 0 where there
-// is none.
-#[derive(Clone, Copy)]
+// is none. Of any other line the kilograms are 0.
+#[derive(Clone, Copy, Default)]
 pub struct Above {
     pub lines: usize,
     pub processes: usize,

@@ -23,7 +23,7 @@ pub enum Refusal {
     SpaceTooShort,
 }
 
-// A refusal and its line, 0 where it is no line's.
+// A refusal and its line, 0 where it is no line's: the verdict of the definitions, and what C gets, have line 0 then.
 #[derive(Clone, Copy, Debug, PartialEq, Eq)]
 pub struct Refused {
     pub refusal: Refusal,

@@ -1,2 +1,2 @@
--- Laws of pools over own grams, for the crates above.
-pub mod Pooling
+-- Laws that the proof cites.
+mod Pooling

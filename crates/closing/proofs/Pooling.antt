@@ -1,4 +1,4 @@
--- Pools over own grams: what settling asks and gives passes between tables that agree on 1 .. n. Assumes nothing.
+-- Pools over own grams: what settling gives passes between tables that agree on 1 .. n. Assumes nothing.
 use mathlib.Core.Path.{◌≡◌, refl, ◌∙◌}
 use mathlib.Core.List.{List}
 use Prim.Native.Nat.{ℕ, zero, suc, ◌^◌, ◌≤◌, ◌<◌}
@@ -18,16 +18,6 @@ part_le n f (suc k) l h = omega (arith, sum_suc k f, sum_mono (suc k) n f h)
 pub own_fits : {n : ℕ} {output : ℕ → ℕ} {kilos : ℕ → ℕ → ℕ} {own : ℕ → ℕ} → Settleable n output kilos own
     → (k : ℕ) → 1 ≤ k → k ≤ n → own k < 2 ^ 64
 own_fits {n} {own = own} s k l h = omega (arith, part_le n own k l h, s.total)
-
-module _ {n : ℕ} {output : ℕ → ℕ} {kilos : ℕ → ℕ → ℕ} {own own' : ℕ → ℕ} (same : (k : ℕ) → 1 ≤ k → k ≤ n → own k ≡ own' k) where
-  pub settleable_cong : Settleable n output kilos own → Settleable n output kilos own'
-  settleable_cong s = record {
-    some = s.some;
-    small = s.small;
-    ahead = s.ahead;
-    within = s.within;
-    total = rw (← sum_cong n own own' same) s.total;
-  }
 
 -- the pools over own grams, what is left of each, and all that is left: as many grams as went in
 pub record Pooled (outputs kilos : List ℕ) (n : ℕ) (own : ℕ → ℕ) (pools lefts : List ℕ) : Type 0 where

@@ -47,13 +47,13 @@ pub record Ready (l : Ledger) (outputs kilos : List ℕ) (count : ℕ) : Type 0 
   pub none_beyond : (k : ℕ) → count < k → indirect_held l k ≡ 0
 
 pub record Closed (l : Ledger) (outputs kilos : List ℕ) (count : ℕ) (r : Closing) : Type 0 where
-  pub direct : Column count (direct_held l) r.direct.0
-  pub indirect : Column count (indirect_held l) r.indirect.0
+  pub direct : Column count (direct_held l) r.attributed.direct.0
+  pub indirect : Column count (indirect_held l) r.attributed.indirect.0
   pub raised : Column count (raised_held l) r.raised.0
-  pub direct_pools : Column count (pool_held outputs kilos count (own_direct l)) r.direct_pools.0
-  pub indirect_pools : Column count (pool_held outputs kilos count (own_indirect l)) r.indirect_pools.0
-  pub direct_lefts : Column count (left_held outputs kilos count (own_direct l)) r.direct_lefts.0
-  pub indirect_lefts : Column count (left_held outputs kilos count (own_indirect l)) r.indirect_lefts.0
+  pub direct_pools : Column count (pool_held outputs kilos count (own_direct l)) r.pools.direct.0
+  pub indirect_pools : Column count (pool_held outputs kilos count (own_indirect l)) r.pools.indirect.0
+  pub direct_lefts : Column count (left_held outputs kilos count (own_direct l)) r.lefts.direct.0
+  pub indirect_lefts : Column count (left_held outputs kilos count (own_indirect l)) r.lefts.indirect.0
   pub left : r.left.0 ≡ sum_to count (left_held outputs kilos count (own_direct l)) + sum_to count (left_held outputs kilos count (own_indirect l))
   pub left_small : r.left.0 < whole_grams
   pub total_raised : r.total_raised.0 ≡ sum_to count (raised_held l)

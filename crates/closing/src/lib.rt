@@ -3,25 +3,23 @@
 
 ghost use Rattle.closing.specs.Closing.{Ready, Closed};
 
-use goods::{BothGramsByProcess, GramsByProcess, KilosByPair, KilosByProcess, SIZE};
+use goods::{BothGramsByProcess, GramsByProcess, KilosByPair, KilosByProcess};
 use ledger::{Ledger, add_all, raise_all, total};
 use quantity::Grams;
 use reckoning::Closing;
 use settling::{Settled, settle};
 
 // Balances are raised to zero before anything bought or taken is added.
-pub fn close(l: Ledger, outputs: KilosByProcess, kilos: &KilosByPair, count: usize) -> Closing
-    requires { Ready l outputs.0 kilos.now count }
-    ensures { Closed l outputs.0 kilos.now count result }
+#[tactic(auto, using(goods::proofs::Sums::sum_cong))]
+pub fn close(l: Ledger, outputs: &KilosByProcess, kilos: &KilosByPair, count: usize) -> Closing
+    requires { Ready l outputs.now.0 kilos.now count }
+    ensures { Closed l outputs.now.0 kilos.now count result }
 {
-    let mut direct = GramsByProcess([0; SIZE]);
-    let mut raised = GramsByProcess([0; SIZE]);
+    let mut direct = GramsByProcess::default();
+    let mut raised = GramsByProcess::default();
     raise_all(&mut direct, &mut raised, &l.balances, count);
     let total_raised = total(&raised, count);
-    let mut own = BothGramsByProcess {
-        direct: GramsByProcess([0; SIZE]),
-        indirect: GramsByProcess([0; SIZE]),
-    };
+    let mut own = BothGramsByProcess::default();
     add_all(&mut own.direct, &direct, &l.bought_direct, count);
     add_all(&mut own.indirect, &l.indirect, &l.bought_indirect, count);
     let Settled { pools, lefts } = settle(own, outputs, kilos, count);
@@ -32,13 +30,10 @@ pub fn close(l: Ledger, outputs: KilosByProcess, kilos: &KilosByPair, count: usi
     let mut indirect = l.indirect;
     indirect.0[0] = 0;
     Closing {
-        direct,
-        indirect,
+        attributed: BothGramsByProcess { direct, indirect },
         raised,
-        direct_pools: pools.direct,
-        indirect_pools: pools.indirect,
-        direct_lefts: lefts.direct,
-        indirect_lefts: lefts.indirect,
+        pools,
+        lefts,
         left,
         total_raised,
     }

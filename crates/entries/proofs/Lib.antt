@@ -3,3 +3,6 @@ pub mod ReadBack
 pub mod Ranges
 pub mod Streams
 pub mod OfKind
+-- and those of this crate's code
+mod Weighing
+mod WeighingStream

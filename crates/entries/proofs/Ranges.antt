@@ -9,7 +9,7 @@ use lib.Dec.{eqb, ltb}
 use lib.ListN.{length, take, get_or}
 use Rattle.decimal.proofs.Bools.{never, or_neither}
 use Rattle.lines.specs.Records.{Field, number, dash, other, Record, field, number_in, number_at}
-use Rattle.lines.specs.Words.{WORDS, DASH, OTHER}
+use Rattle.lines.specs.Words.{DASH, OTHER}
 use Rattle.lines.specs.declared.LineRead.{LineRead}
 use Rattle.quantity.specs.Limits.{Limits, limits}
 use Rattle.sheet.specs.Kinds.{kind, Rule, method_rules, rules, rules_of}
@@ -105,19 +105,19 @@ standard_word rule w standard h = go (eqb w DASH) (eqb w OTHER) h
     go false true h = absurd (never (sym h))
     go false false h = refl
 
-module _ (l : LineRead) (sized : length l.words ≡ WORDS) (keeps : LineKeeps l) where
+module _ (l : LineRead) (keeps : LineKeeps l) where
   abbrev rs : List Rule
   rs = rules_of limits (record_read l)
 
   count_is : l.count ≡ length (rules_of limits (record_read l))
   unfolding record_read
   count_is =
-      sym (read_length l.count l.words (omega (arith, keeps.few)))
+      sym (read_length l.count l.words (omega (arith, keeps.few, keeps.sized)))
       ∙ keeps_count (rules_of limits (record_read l)) (record_read l).said keeps.ranges.fields
 
   field_read_lem : (k : ℕ) → k < length (rules_of limits (record_read l)) → field (record_read l) k ≡ field_read (get_or l.words k 0)
   unfolding record_read
-  field_read_lem k h = read_at l.count k l.words (omega (arith, count_is)) (omega (arith, keeps.few))
+  field_read_lem k h = read_at l.count k l.words (omega (arith, count_is)) (omega (arith, keeps.few, keeps.sized))
 
   -- by a rule without `-` the number at k is its word
   pub number_is : (k : ℕ) → k < length (rules_of limits (record_read l)) → (get_or (rules_of limits (record_read l)) k no_rule).dash_allowed ≡ false

@@ -6,20 +6,21 @@ ghost use Rattle.entries.specs.Read.{or_standard_word};
 
 use quantity::method::Method;
 
-// a and b are one `if` each: a function for both would have to be passed the look-up as a closure, with a contract of its own.
+// a and b are two functions: what they share is one test.
+// The word of `-` is a mark and no Option, as in `lines`: comparisons with a range's ends refuse it as they refuse a number above it.
 
 // a: the net calorific value of a fuel in method 1, the factor of a carbonate in method 2.
 pub fn given_a(method: Method, code: u64, word: u64) -> u64
     ensures { result ≡ or_standard_word word (standard_a (method_number method) code) }
 {
-    if word != lines::DASH {
-        return word;
-    }
-    match method {
-        Method::Combustion => standard::standard_net_calorific_value(code),
-        Method::ProcessEmission | Method::CarbonIn | Method::CarbonOut => {
-            standard::standard_carbonate(code)
-        }
+    match word {
+        lines::DASH => match method {
+            Method::Combustion => standard::standard_net_calorific_value(code),
+            Method::ProcessEmission | Method::CarbonIn | Method::CarbonOut => {
+                standard::standard_carbonate(code)
+            }
+        },
+        given => given,
     }
 }
 
@@ -27,8 +28,8 @@ pub fn given_a(method: Method, code: u64, word: u64) -> u64
 pub fn given_b(code: u64, word: u64) -> u64
     ensures { result ≡ or_standard_word word (standard_b code) }
 {
-    if word != lines::DASH {
-        return word;
+    match word {
+        lines::DASH => standard::standard_emission_factor(code),
+        given => given,
     }
-    standard::standard_emission_factor(code)
 }

@@ -7,7 +7,7 @@ ghost use Rattle.std.specs.Prelude.{◌≡◌};
 ghost use Rattle.sheet.specs.Kinds.{letter};
 ghost use Rattle.sheet.specs.declared.Kind.TheVariants.{SourceStream, MeasurableHeat, WasteGas, Electricity, BoughtPrecursor};
 ghost use Rattle.entries.specs.Entries.{entry};
-ghost use Rattle.entries.specs.Read.{record_read, LineKeeps};
+ghost use Rattle.entries.specs.Read.{record_read, LineKeeps, LineKeeps-prop};
 
 use ledger::Entry;
 use lines::LineRead;
@@ -15,78 +15,87 @@ use quantity::method::Method;
 use quantity::{Kilos, KilowattHours, Megajoules};
 use sheet::Kind;
 
-// `S,n,method,code,kg,a,b,c,d`, `-` in a or b standing for the standard value. A line that keeps its ranges has a method.
-fn weigh_stream(l: LineRead) -> Entry
-    requires line_keeps { LineKeeps l }
-    requires letter_value { l.letter ≡ letter SourceStream }
-    ensures { result ≡ entry (record_read l) }
-{
-    let method = Method::try_from(l.words[1]).unwrap();
-    let code = l.words[2];
-    let a = given::given_a(method, code, l.words[4]);
-    let b = given::given_b(code, l.words[5]);
-    let grams = streams::stream(l.words[1], Kilos(l.words[3]), a, b, l.words[6], l.words[7]);
-    moves::stream_entry(l.words[0] as usize, grams)
+// A line that was read, and to which no row 4 to 7 applies.
+#[derive(Clone, Copy)]
+pub struct KeptLine<'a> {
+    pub line: &'a LineRead,
+    ghost keeps: { LineKeeps line.now } by { LineKeeps-prop line.now },
 }
 
-// `H,from,to,MJ,factor`. Heat and electricity are two functions: their units differ, and what they move.
-fn weigh_heat(l: LineRead) -> Entry
-    requires line_keeps { LineKeeps l }
-    requires letter_value { l.letter ≡ letter MeasurableHeat }
-    ensures { result ≡ entry (record_read l) }
-{
-    let weight = grams::weighing::weighed(Megajoules(l.words[2]), l.words[3]);
-    transferred::heat_entry(l.words[0] as usize, l.words[1] as usize, weight)
-}
+impl<'a> KeptLine<'a> {
+    // `S,n,method,code,kg,a,b,c,d`, `-` in a or b standing for the standard value. A line that keeps its ranges has a method.
+    #[tactic(auto, using(crate::proofs::WeighingStream::method_known, crate::proofs::WeighingStream::stream_asked, crate::proofs::WeighingStream::stream_entry))]
+    fn weigh_stream(self) -> Entry
+        requires { self.line.now.letter ≡ letter SourceStream }
+        ensures { result ≡ entry (record_read self.entry.line.now) }
+    {
+        let words = &self.line.words;
+        let method = Method::try_from(words[1]).unwrap();
+        let code = words[2];
+        let a = given::given_a(method, code, words[4]);
+        let b = given::given_b(code, words[5]);
+        let grams = streams::of_method(method, Kilos(words[3]), a, b, words[6], words[7]);
+        moves::stream_entry(words[0] as usize, grams)
+    }
 
-// `W,from,to,MJ`.
-fn weigh_gas(l: LineRead) -> Entry
-    requires line_keeps { LineKeeps l }
-    requires letter_value { l.letter ≡ letter WasteGas }
-    ensures { result ≡ entry (record_read l) }
-{
-    transferred::gas_entry(
-        l.words[0] as usize,
-        l.words[1] as usize,
-        Megajoules(l.words[2]),
-    )
-}
+    // `H,from,to,MJ,factor`. Heat and electricity are two functions: their units differ, and what they move.
+    #[tactic(auto, using(crate::proofs::Weighing::heat_asked, crate::proofs::Weighing::heat_entry))]
+    fn weigh_heat(self) -> Entry
+        requires { self.line.now.letter ≡ letter MeasurableHeat }
+        ensures { result ≡ entry (record_read self.entry.line.now) }
+    {
+        let words = &self.line.words;
+        let weight = grams::weighing::weighed(Megajoules(words[2]), words[3]);
+        transferred::heat_entry(words[0] as usize, words[1] as usize, weight.grams)
+    }
 
-// `E,from,to,kWh,factor`.
-fn weigh_electricity(l: LineRead) -> Entry
-    requires line_keeps { LineKeeps l }
-    requires letter_value { l.letter ≡ letter Electricity }
-    ensures { result ≡ entry (record_read l) }
-{
-    let weight = grams::weighing::weighed(KilowattHours(l.words[2]), l.words[3]);
-    transferred::electricity_entry(l.words[0] as usize, l.words[1] as usize, weight)
-}
+    // `W,from,to,MJ`.
+    #[tactic(auto, using(crate::proofs::Weighing::gas_asked, crate::proofs::Weighing::gas_entry))]
+    fn weigh_gas(self) -> Entry
+        requires { self.line.now.letter ≡ letter WasteGas }
+        ensures { result ≡ entry (record_read self.entry.line.now) }
+    {
+        let words = &self.line.words;
+        transferred::gas_entry(words[0] as usize, words[1] as usize, Megajoules(words[2]))
+    }
 
-// `B,n,kg,direct,indirect`.
-fn weigh_bought(l: LineRead) -> Entry
-    requires line_keeps { LineKeeps l }
-    requires letter_value { l.letter ≡ letter BoughtPrecursor }
-    ensures { result ≡ entry (record_read l) }
-{
-    let direct = grams::weighing::weighed(Kilos(l.words[1]), l.words[2]);
-    let indirect = grams::weighing::weighed(Kilos(l.words[1]), l.words[3]);
-    moves::bought_entry(l.words[0] as usize, direct, indirect)
-}
+    // `E,from,to,kWh,factor`.
+    #[tactic(auto, using(crate::proofs::Weighing::electricity_asked, crate::proofs::Weighing::electricity_entry))]
+    fn weigh_electricity(self) -> Entry
+        requires { self.line.now.letter ≡ letter Electricity }
+        ensures { result ≡ entry (record_read self.entry.line.now) }
+    {
+        let words = &self.line.words;
+        let weight = grams::weighing::weighed(KilowattHours(words[2]), words[3]);
+        transferred::electricity_entry(words[0] as usize, words[1] as usize, weight.grams)
+    }
 
-// The entry of a line by its letter. Outputs and own goods move no grams here.
-#[tactic(auto, using(sheet::proofs::Table::letter_of), unfolding(crate::specs::Read::record_read))]
-pub fn weigh(l: LineRead) -> Entry
-    requires { LineKeeps l }
-    ensures { result ≡ entry (record_read l) }
-{
-    match Kind::from(l.letter) {
-        Kind::SourceStream => weigh_stream(l),
-        Kind::MeasurableHeat => weigh_heat(l),
-        Kind::WasteGas => weigh_gas(l),
-        Kind::Electricity => weigh_electricity(l),
-        Kind::BoughtPrecursor => weigh_bought(l),
-        Kind::Process => ledger::nothing(),
-        Kind::OwnGood => ledger::nothing(),
-        Kind::Unknown => ledger::nothing(),
+    // `B,n,kg,direct,indirect`.
+    #[tactic(auto, using(crate::proofs::Weighing::direct_asked, crate::proofs::Weighing::indirect_asked, crate::proofs::Weighing::bought_entry))]
+    fn weigh_bought(self) -> Entry
+        requires { self.line.now.letter ≡ letter BoughtPrecursor }
+        ensures { result ≡ entry (record_read self.entry.line.now) }
+    {
+        let words = &self.line.words;
+        let direct = grams::weighing::weighed(Kilos(words[1]), words[2]);
+        let indirect = grams::weighing::weighed(Kilos(words[1]), words[3]);
+        moves::bought_entry(words[0] as usize, direct, indirect)
+    }
+
+    // The entry of the line by its letter. Outputs and own goods move no grams here.
+    #[tactic(auto, using(sheet::proofs::Table::letter_of), unfolding(crate::specs::Read::record_read))]
+    pub fn weigh(self) -> Entry
+        ensures { result ≡ entry (record_read self.entry.line.now) }
+    {
+        match Kind::from(self.line.letter) {
+            Kind::SourceStream => self.weigh_stream(),
+            Kind::MeasurableHeat => self.weigh_heat(),
+            Kind::WasteGas => self.weigh_gas(),
+            Kind::Electricity => self.weigh_electricity(),
+            Kind::BoughtPrecursor => self.weigh_bought(),
+            Kind::Process => Entry::default(),
+            Kind::OwnGood => Entry::default(),
+            Kind::Unknown => Entry::default(),
+        }
     }
 }

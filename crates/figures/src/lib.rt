@@ -26,7 +26,7 @@ fn put_three(space: &mut [u8], at: usize, t: u64) -> usize
     put_byte(space, tens, 48 + ((t % 10) as u8))
 }
 
-// Writes a comma and a field.
+// Writes a comma and a field. A figure has no `Display`: nothing is formatted, for the reason at `decimal::put_before`.
 pub fn put_figure(space: &mut [u8], at: usize, f: Figure) -> usize
     requires { at + (length (spelt f) + 1) ≤ length space.old }
     ensures { Put space.old at (44 ∷ spelt f) space.new result }

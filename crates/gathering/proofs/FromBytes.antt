@@ -3,28 +3,23 @@ use mathlib.Core.Path.{◌≡◌, sym, ap, ◌∙◌}
 use mathlib.Core.Bool.{not}
 use mathlib.Core.List.{List, [], ◌∷◌, map}
 use Prim.Native.Nat.{ℕ, suc, ◌+◌, ◌-◌, ◌≤◌, ◌<◌}
-use native.Mathlib.Nat.{lt_of_not-le}
-use native.Mathlib.Decide.{dec_le}
 use native.Mathlib.Omega.{arith}
-use borrow.Author.Tests.{eq-eqb, ne_eqb, ltb-true, lt-ltb, le-ltb}
+use borrow.Author.Tests.{ltb-true}
 use lib.Dec.{eqb, ltb}
-use lib.IntN.{ℤ, pos, ◌+ℤ◌, ◌-ℤ◌}
 use lib.ListN.{length, take, drop}
+use Rattle.std.proofs.lemmas.Bool.Decides.{nat_tests}
 use Rattle.lines.specs.Lines.{Line, lines_of}
 use Rattle.lines.specs.Records.{record_of, records_of}
 use Rattle.lines.specs.Words.{ReadAt, line_at, line_length}
 use Rattle.lines.specs.declared.LineRead.{LineRead}
 use Rattle.places.proofs.NextLine.{lines_step, lines_done, line_ended, end_in}
+use Rattle.std.specs.Prelude.{Some}
 use Rattle.quantity.specs.Limits.{limits}
 use Rattle.sheet.specs.Verdict.{accepted, refused, first_of, line_checks, lines_checks}
-use Rattle.ledger.specs.Ledger.{added, charged_and_credited, booked}
-use Rattle.ledger.specs.declared.Entry.{Entry}
-use Rattle.entries.specs.Entries.{entry}
-use Rattle.entries.specs.Read.{record_read, LineKeeps}
+use Rattle.entries.specs.Read.{LineKeeps}
 use Rattle.goods.specs.Settling.{SIZE, pairs}
 use Rattle.attribution.specs.Reckoning.{kilos_between}
-use Rattle.works.specs.Works.{works_at_start, noted_after, kilos_after, works_after, above_of, read_number}
-use Rattle.works.specs.declared.Noted.{Noted}
+use Rattle.works.specs.Works.{works_at_start, kilos_after, works_after, above_of, read_number}
 use Rattle.works.specs.declared.Works.{Works}
 use Rattle.gathering.specs.Gathered.{Gathered, NoKilos, records_above}
 use Rattle.gathering.proofs.Standing.{Says}
@@ -41,11 +36,7 @@ pub at_start : (sheet kilos : List ℕ) → NoKilos kilos → ReadingAt sheet 0 
 at_start sheet kilos e = record { inside = omega arith; left = reading_start (lines_of sheet) kilos e }
 
 not_equal : (a b : ℕ) → a ≤ b → not (eqb a b) ≡ ltb a b
-not_equal a b h =
-    elim (dec_le b a) [
-      | yes g ↦ simp (eq-eqb a b (omega arith), le-ltb a b g)
-      | no g ↦ let k : a < b = lt_of_not-le g in simp (ne_eqb a b (λ e. omega arith), lt-ltb a b k)
-    ]
+not_equal a b h = grind (arith, nat_tests)
 
 module _ (sheet : List ℕ) (at : ℕ) (w : Works) (kilos : List ℕ) (rd : ReadingAt sheet at w kilos) (more : at < length sheet)
     (l : LineRead) (read : ReadAt sheet at l) where
@@ -61,15 +52,15 @@ module _ (sheet : List ℕ) (at : ℕ) (w : Works) (kilos : List ℕ) (rd : Read
   says : Says l (record_of (line_at sheet at))
   says = record { letter = read.letter; count = read.count; words = read.words }
 
-  number_is : read_number limits l (length sheet) (above_of w kilos l) ≡ line_given (line_at sheet at) w kilos l
+  number_is : read_number limits l (Some (length sheet)) (above_of w kilos l) ≡ line_given (line_at sheet at) w kilos l
   number_is =
       let last : l.end ≤ length sheet = omega (arith, read.end, end_in sheet at rd.inside) in
       rw (not_equal l.end (length sheet) last ∙ sym (line_ended sheet at l.end rd.inside read.end))
 
-  pub accepted_at : read_number limits l (length sheet) (above_of w kilos l) ≡ 0 → first_of (line_checks limits here.above (line_at sheet at)) ≡ accepted
+  pub accepted_at : read_number limits l (Some (length sheet)) (above_of w kilos l) ≡ 0 → first_of (line_checks limits here.above (line_at sheet at)) ≡ accepted
   accepted_at z = accepted_here (lines_of sheet) rest line w kilos here l says (sym number_is ∙ z)
 
-  pub refused_at_lem : (n : ℕ) → n ≡ read_number limits l (length sheet) (above_of w kilos l) → (n ≡ 0 → ⊥)
+  pub refused_at_lem : (n : ℕ) → n ≡ read_number limits l (Some (length sheet)) (above_of w kilos l) → (n ≡ 0 → ⊥)
       → first_of (lines_checks limits [] (lines_of sheet)) ≡ refused n (w.noted.lines + 1)
   refused_at_lem n e some = refused_here (lines_of sheet) rest line w kilos here l says n (sym number_is ∙ sym e) some
 

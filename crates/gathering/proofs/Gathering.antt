@@ -8,7 +8,7 @@ use native.Mathlib.Omega.{arith}
 use borrow.Author.Tests.{eqb-true, le-leb}
 use lib.Dec.{eqb}
 use lib.ListN.{length}
-use Rattle.decimal.proofs.Bools.{or_either}
+use Rattle.std.proofs.lemmas.Bool.{or_cases}
 use Rattle.quantity.specs.Limits.{limits}
 use Rattle.sheet.specs.Kinds.{is}
 use Rattle.sheet.specs.declared.Kind.TheVariants.{Process}
@@ -46,7 +46,7 @@ module _ (sheet : List ℕ) (w : Works) (kilos : List ℕ) (rd : Reading (lines_
   made : (i : ℕ) → 1 ≤ i → i ≤ w.noted.count → 1 ≤ sum_of (output_in i) (records_of sheet)
   made i one last =
       let s : sum_of (output_in i) rd.above ≡ sum_of (output_in i) (records_of sheet) = same (output_in i) in
-      go (or_either (eqb i 0) (any_of (λ r. is Process r && eqb i (process r)) rd.above) (rd.standing.held.named i ∙ le-leb i w.noted.count last)) s
+      go (or_cases (eqb i 0) (any_of (λ r. is Process r && eqb i (process r)) rd.above) (rd.standing.held.named i ∙ le-leb i w.noted.count last)) s
     where
       go : (eqb i 0 ≡ true) ⊎ (any_of (λ r. is Process r && eqb i (process r)) rd.above ≡ true)
           → sum_of (output_in i) rd.above ≡ sum_of (output_in i) (records_of sheet) → 1 ≤ sum_of (output_in i) (records_of sheet)

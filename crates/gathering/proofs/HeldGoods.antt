@@ -1,12 +1,11 @@
 -- What the arrays hold of the P and G lines above, and one line more. Assumes nothing.
-use mathlib.Core.Path.{◌≡◌, refl, sym, ◌∙◌}
+use mathlib.Core.Path.{◌≡◌, refl, sym, ap, ◌∙◌}
 use mathlib.Core.Bool.{Bool, true, false}
 use mathlib.Core.List.{List, [], ◌∷◌}
-use Prim.Native.Nat.{ℕ, suc, ◌+◌, ◌*◌, ◌≤◌, ◌<◌}
-use native.Mathlib.Nat.{mul-le-mul_right, le_refl}
+use Prim.Native.Nat.{ℕ, suc, ◌+◌, ◌*◌, ◌/◌, ◌%◌, ◌≤◌, ◌<◌}
+use native.Mathlib.Nat.{le_refl}
 use native.Mathlib.Omega.{arith}
-use native.Mathlib.Decide.{dec_le}
-use native.Mathlib.Nat.{lt_of_not-le}
+use Rattle.std.proofs.lemmas.Nat.{div-mul-add, mod-mul-add}
 use borrow.Author.Tests.{eqb-true, eqb-false}
 use lib.Dec.{eqb}
 use lib.ListN.{length, get_or, replicate, length-set, length-replicate}
@@ -52,14 +51,14 @@ goods_start = record {
 
 -- ---- the place of a pair
 
-pub pair_at : (size i j f t g : ℕ) → j < size → t < size → only_at (i * size + j) (f * size + t) g ≡ only_at i f (only_at j t g)
+pair_at : (size i j f t g : ℕ) → j < size → t < size → only_at (i * size + j) (f * size + t) g ≡ only_at i f (only_at j t g)
 pair_at size i j f t g hj ht = go (eqb i f) refl (eqb j t) refl
   where
-    apart : (a b p q : ℕ) → p < size → q < size → a < b → a * size + p ≡ b * size + q → ⊥
-    apart a b p q hp hq l e = omega (arith, mul-le-mul_right size l)
+    first : i * size + j ≡ f * size + t → i ≡ f
+    first z = sym (div-mul-add i size j hj) ∙ ap (λ (n : ℕ). n / size) z ∙ div-mul-add f size t ht
 
-    same : i ≡ f → i * size + j ≡ f * size + t → j ≡ t
-    same e z = let y : f * size + j ≡ f * size + t = rw e at z in omega arith
+    second : i * size + j ≡ f * size + t → j ≡ t
+    second z = sym (mod-mul-add i size j hj) ∙ ap (λ (n : ℕ). n % size) z ∙ mod-mul-add f size t ht
 
     go : (a : Bool) → eqb i f ≡ a → (b : Bool) → eqb j t ≡ b → only_at (i * size + j) (f * size + t) g ≡ only_at i f (only_at j t g)
     go true p true q =
@@ -67,15 +66,11 @@ pair_at size i j f t g hj ht = go (eqb i f) refl (eqb j t) refl
         let d = eqb-true j t q in
         rw (e, d, at_same (f * size + t) g, at_same f (only_at t t g)) (sym (at_same t g))
     go true p false q =
-        let e = eqb-true i f p in
         let n = eqb-false j t q in
-        rw (at_other j t g n, at_none i f) (at_other (i * size + j) (f * size + t) g (λ (z : i * size + j ≡ f * size + t). n (same e z)))
+        rw (at_other j t g n, at_none i f) (at_other _ _ g (λ (z : i * size + j ≡ f * size + t). n (second z)))
     go false p b q =
         let n = eqb-false i f p in
-        rw (at_other i f (only_at j t g) n) (at_other (i * size + j) (f * size + t) g (λ (z : i * size + j ≡ f * size + t). elim (dec_le i f) [
-          | yes h ↦ apart i f j t hj ht (omega arith) z
-          | no h ↦ apart f i t j ht hj (lt_of_not-le h) (sym z)
-        ]))
+        rw (at_other i f (only_at j t g) n) (at_other _ _ g (λ (z : i * size + j ≡ f * size + t). n (first z)))
 
 -- ---- one line more
 

@@ -9,7 +9,7 @@ use borrow.Author.Tests.{eqb-true, eqb-false, ne_eqb, lt-ltb, ltb-false}
 use lib.Dec.{eqb}
 use lib.ListN.{length, get_or, replicate}
 use lib.Seq.{length-sets}
-use Rattle.decimal.proofs.Bools.{never}
+use Rattle.std.proofs.lemmas.Bool.{false≢true}
 use Rattle.lines.specs.Lines.{Line}
 use Rattle.lines.specs.Records.{Record, record_of, number_at}
 use Rattle.lines.specs.Words.{WORDS, CAP, word, words}
@@ -95,7 +95,7 @@ standing_start w kilos l c g h = record {
   few = omega arith;
   held = rw c (held_none limits);
   goods = g;
-  made = λ p e. absurd (never e);
+  made = λ p e. absurd (false≢true e);
   once = λ f t. refl;
   ledger = h;
 }
@@ -180,15 +180,16 @@ module _ (line : Line) (l : LineRead) (says : Says l (record_of line)) (above : 
   unfolding record_read
   read_record = rw (says.letter, says.count, says.words) (record_back limits small_limits r passed.ranges)
 
+  sized : length l.words ≡ WORDS
+  unfolding words
+  sized = ap length says.words ∙ length-sets (replicate WORDS 0) 0 (map word r.said)
+
   pub line_keeps : LineKeeps l
   line_keeps = record {
     ranges = rw read_record passed.ranges;
     few = omega (arith, says.count, few_fields limits small_limits r passed.ranges);
+    sized = sized;
   }
-
-  sized : length l.words ≡ WORDS
-  unfolding words
-  sized = ap length says.words ∙ length-sets (replicate WORDS 0) 0 (map word r.said)
 
   -- ONE LINE MORE
   module _ (w : Works) (kilos : List ℕ) (s : Standing above w kilos) where
@@ -210,8 +211,8 @@ module _ (line : Line) (l : LineRead) (says : Says l (record_of line)) (above : 
           few = few_next;
           held = rw p at (held_next limits above line w.noted.count s.held ok);
           goods = held_other above w.noted.count w.noted.outputs.0 w.noted.taken.0 kilos s.goods r p g;
-          made = made_next above r s.made (λ e. absurd (never (sym p ∙ e)));
-          once = once_next above r s.once (λ e. absurd (never (sym g ∙ e)));
+          made = made_next above r s.made (λ e. absurd (false≢true (sym p ∙ e)));
+          once = once_next above r s.once (λ e. absurd (false≢true (sym g ∙ e)));
           ledger = booked_next;
         }
 
@@ -220,7 +221,7 @@ module _ (line : Line) (l : LineRead) (says : Says l (record_of line)) (above : 
     standing_process p g =
         let k = kind_is Process r p in
         let n = in_rules limits r passed.ranges Process k in
-        let v = are_words l sized line_keeps Process (rw read_record k) in
+        let v = are_words l line_keeps Process (rw read_record k) in
         let a = after_process w.noted kilos l (eqb-true l.letter (letter Process) (is_letter_lem Process refl true p)) in
         let at0 : process r ≡ get_or l.words 0 0 = rw read_record at (v.0 refl) in
         let at1 : number_at r 1 ≡ get_or l.words 1 0 = rw read_record at (v.1.0 refl) in
@@ -230,7 +231,7 @@ module _ (line : Line) (l : LineRead) (says : Says l (record_of line)) (above : 
           held = rw add-one (rw p at (held_next limits above line w.noted.count s.held ok));
           goods = held_process above w.noted.count w.noted.outputs.0 w.noted.taken.0 kilos s.goods r p g (omega (arith, (n.0 refl).high)) (n.1.0 refl).high;
           made = made_next above r s.made (λ z. (n.1.0 refl).low);
-          once = once_next above r s.once (λ z. absurd (never (sym g ∙ z)));
+          once = once_next above r s.once (λ z. absurd (false≢true (sym g ∙ z)));
           ledger = booked_next;
         }
 
@@ -239,7 +240,7 @@ module _ (line : Line) (l : LineRead) (says : Says l (record_of line)) (above : 
     standing_good p g =
         let k = kind_is OwnGood r g in
         let n = in_rules limits r passed.ranges OwnGood k in
-        let v = are_words l sized line_keeps OwnGood (rw read_record k) in
+        let v = are_words l line_keeps OwnGood (rw read_record k) in
         let a = after_good w.noted kilos l (eqb-true l.letter (letter OwnGood) (is_letter_lem OwnGood refl true g)) in
         let at0 : from r ≡ get_or l.words 0 0 = rw read_record at (v.0 refl) in
         let at1 : to r ≡ get_or l.words 1 0 = rw read_record at (v.1.0 refl) in
@@ -250,7 +251,7 @@ module _ (line : Line) (l : LineRead) (says : Says l (record_of line)) (above : 
           held = rw p at (held_next limits above line w.noted.count s.held ok);
           goods = held_good above w.noted.count w.noted.outputs.0 w.noted.taken.0 kilos s.goods r p g
               (omega (arith, (n.0 refl).high)) (omega (arith, (n.1.0 refl).high)) (n.1.1.0 refl).high;
-          made = made_next above r s.made (λ z. absurd (never (sym p ∙ z)));
+          made = made_next above r s.made (λ z. absurd (false≢true (sym p ∙ z)));
           once = once_next above r s.once (λ z. (n.1.1.0 refl).low);
           ledger = booked_next;
         }

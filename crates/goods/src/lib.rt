@@ -9,21 +9,23 @@ pub const SIZE: usize = PROCESSES + 1;
 // Kilograms from process i to process j stand at i * SIZE + j.
 pub const PAIRS: usize = SIZE * SIZE;
 
-// A figure of each process, at its number, by its unit. A generic struct can hold no array of a type parameter, so each unit has a struct.
-#[derive(Clone, Copy)]
+// A figure of each process, at its number, by its unit. Three structs, and no generic one over the unit's struct: clauses and definitions
+// speak of columns of numbers, and of a column of structs each of them would have to take the numbers out.
+#[derive(Clone, Copy, Default)]
 pub struct GramsByProcess(pub [u64; SIZE]);
 
-#[derive(Clone, Copy)]
+#[derive(Clone, Copy, Default)]
 pub struct SignedGramsByProcess(pub [i64; SIZE]);
 
-#[derive(Clone, Copy)]
+#[derive(Clone, Copy, Default)]
 pub struct KilosByProcess(pub [u64; SIZE]);
 
-// The kilograms of each pair of processes. No other array has so many places. One list, as the definitions have it: two indices would be no plainer.
+// The kilograms of each pair of processes: one list, as the definitions' `pairs` reads it. With two indices each definition of pairs would
+// read a list of lists.
 pub type KilosByPair = [u64; PAIRS];
 
 // Direct and indirect grams of each process: their own, their pools, or what is left of these.
-#[derive(Clone, Copy)]
+#[derive(Clone, Copy, Default)]
 pub struct BothGramsByProcess {
     pub direct: GramsByProcess,
     pub indirect: GramsByProcess,

@@ -1,6 +1,7 @@
-// Document 01: the rounding of "Source streams", and the grams of "Attribution" weighed by it.
+// Document 01: the rounding of "Source streams", the steps that its methods share, and the grams of "Attribution".
 #![tactic(auto)]
 
+pub mod line_grams;
 pub mod weighing;
 
 ghost use Rattle.std.specs.Prelude.{◌≡◌, ◌+◌, ◌*◌, ◌/◌, ◌≤◌};

@@ -2,7 +2,7 @@
 use mathlib.Core.Path.{◌≡◌, refl, sym, ap, ◌∙◌}
 use mathlib.Core.Bool.{Bool, true, false, cond}
 use mathlib.Core.Logic.{inl}
-use mathlib.Core.List.{List, [], ◌∷◌}
+use mathlib.Core.List.{List}
 use Prim.Native.Nat.{ℕ, ◌+◌, ◌-◌, ◌≤◌, ◌<◌}
 use native.Mathlib.Nat.{le_refl}
 use native.Mathlib.Omega.{arith}
@@ -27,19 +27,8 @@ use Rattle.heads.proofs.Left.{first_field, comma_at_lem}
 -- ---- the first field's letter
 
 module _ (s : List ℕ) (start end : ℕ) (h : start ≤ end) (k : end ≤ length s) where
-  part : length (take (end - start) (drop start s)) ≡ end - start
-  part = rw (length-take, length-drop) (omega arith)
-
   pub letter_one : end - start ≡ 1 → get_or s start 0 ≡ letter_in (take (end - start) (drop start s))
   letter_one e = rw (e, drop-cons s start 0 (omega arith))
-
-  pub letter_none : (end - start ≡ 1 → ⊥) → 0 ≡ letter_in (take (end - start) (drop start s))
-  letter_none n = go (take (end - start) (drop start s)) part
-    where
-      go : (l : List ℕ) → length l ≡ end - start → 0 ≡ letter_in l
-      go [] e = refl
-      go (b ∷ []) e = absurd (n (sym e))
-      go (b ∷ c ∷ l) e = refl
 
 -- the first field ends at first
 letter_is : (s : List ℕ) (start first letter : ℕ) → start ≤ length s → first ≡ start + field_length (drop start s)
@@ -96,13 +85,6 @@ module _ (s : List ℕ) (start : ℕ) where
       let first : get_or (take (length s - start) (drop start s)) 0 0 ≡ get_or s start 0 =
       at_rest 0 ∙ ap (λ (i : ℕ). get_or s i 0) (let z : start + 0 ≡ start = omega arith in z) in
       rw first (letter_head (record { ends = e; letter = rw first at l; comma = sym (at_rest 1) ∙ c; inside = omega (arith, length-take {A = ℕ}, length-drop {A = ℕ}) }))
-
-  pub no_letter : (h : Head) → HeadIs s start h.letter h.end × (h.stop ≡ None) → (LetterAt s start → ⊥) → HeadAt s start h
-  no_letter h k n = record { is = k.0; stop = k.1 ∙ go (letter_first s start) refl }
-    where
-      go : (t : Bool) → letter_first s start ≡ t → None ≡ cond t (Some Comma) None
-      go true e = absurd (n (letter_at s start e))
-      go false e = refl
 
 module _ (s : List ℕ) (start : ℕ) (h : Head) (k : HeadAt s start h) where
   pub head_ahead : h.stop ≡ Some Comma → EndsInLF s × (comma_at s h.end ≡ true)

@@ -8,7 +8,7 @@ ghost use Rattle.heads.specs.Heads.{HeadIs, HeadAt};
 
 use fields::{Stop, first_end};
 
-// The letter that a line's first field is: its one byte, 0 where it has none or several.
+// The letter that a line's first field is: its one byte, 0 where it has none or several, as in the reader's definition `letter_in`.
 fn letter_in(first_field: &[u8]) -> u8
     ensures { result ≡ letter_in first_field.now }
 {

@@ -15,7 +15,8 @@ use sheet::Kind;
 use source_streams::source_stream;
 use transfers::{electricity, measurable_heat, waste_gas};
 
-// Rows 4 to 13 of a line by its letter, its count of fields and its words.
+// Rows 4 to 13 of a line by its letter, its count of fields and its words. The line and what the lines above say of it are two parameters,
+// here and in the function of each kind: document 01 judges a line by itself first, and then under the lines above.
 pub fn line_refusal(l: &LineRead, above: Above) -> Result<(), Refusal>
     ensures { number_judged result ≡ kind_number limits (kind_of l.now.letter) l.now.count l.now.words above }
 {

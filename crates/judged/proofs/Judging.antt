@@ -1,12 +1,13 @@
 -- Lines judged one after the other, from a sheet's bytes or from lent records; the books are kept in thought only. Assumes nothing.
 use mathlib.Core.Path.{◌≡◌, refl, sym, ap, ◌∙◌}
-use mathlib.Core.Bool.{Bool, true, false, not}
+use mathlib.Core.Bool.{Bool, true, false}
 use mathlib.Core.List.{List, []}
-use Prim.Native.Nat.{ℕ, ◌+◌, ◌-◌, ◌*◌, ◌^◌, ◌≤◌, ◌<◌}
+use Prim.Native.Nat.{ℕ, ◌+◌, ◌*◌, ◌^◌, ◌≤◌, ◌<◌}
 use native.Mathlib.Omega.{arith}
 use borrow.Author.Tests.{ne_eqb}
 use lib.Dec.{eqb}
 use lib.ListN.{length, drop, replicate}
+use Rattle.std.specs.Prelude.{Option, Some}
 use Rattle.decimal.proofs.Bools.{never}
 use Rattle.quantity.specs.Limits.{limits}
 use Rattle.lines.specs.Lines.{lines_of}
@@ -19,7 +20,7 @@ use Rattle.ledger.specs.Ledger.{start}
 use Rattle.ledger.specs.declared.Ledger.{Ledger}
 use Rattle.entries.specs.Read.{LineKeeps}
 use Rattle.goods.specs.Settling.{PAIRS}
-use Rattle.works.specs.Works.{above_at, above_of, read_number, noted_after, kilos_after, nothing_noted, RoomForLine}
+use Rattle.works.specs.Works.{above_at, above_of, lacks_lf, read_number, noted_after, kilos_after, nothing_noted, RoomForLine}
 use Rattle.works.specs.declared.Noted.{Noted}
 use Rattle.works.specs.declared.Works.{Works}
 use Rattle.places.proofs.NextLine.{lines_done}
@@ -33,19 +34,19 @@ use Rattle.judged.proofs.Given.{there, next_lent, ended_lent}
 
 -- a line's end fits in 64 bits, and so does the place after it
 pub end_fits : (lent : Bool) (bytes list : List ℕ) (lines : ℕ) → lines ≤ limits.lines → (end : ℕ) → Near lent (end + 1) (lines + 1)
-    → end < length (sheet_given lent bytes list) → size_given lent bytes < 2 ^ 64 → end + 1 < 2 ^ 64
+    → end < length (sheet_given lent bytes list) → length bytes < 2 ^ 64 → end + 1 < 2 ^ 64
 end_fits true bytes list lines few end near inside long = let low = near refl in omega arith
 end_fits false bytes list lines few end near inside long = omega arith
 
 -- the lines above are judged and noted, those from a place on are left
-pub record JudgingAt (lent : Bool) (bytes list : List ℕ) (size : ℕ) (kilos : List ℕ) (noted : Noted) (at : ℕ) : Type 0 where
+pub record JudgingAt (lent : Bool) (bytes list : List ℕ) (size : Option ℕ) (kilos : List ℕ) (noted : Noted) (at : ℕ) : Type 0 where
   pub sized : size ≡ size_given lent bytes
   pub books : Ledger
   pub reading : ReadingAt (sheet_given lent bytes list) at (record { noted = noted; ledger = books }) kilos
   pub spelt : Spelt lent list at noted.lines
   pub near : Near lent at noted.lines
 
-pub judging_start : (lent : Bool) (bytes list : List ℕ) (size : ℕ) → size ≡ size_given lent bytes
+pub judging_start : (lent : Bool) (bytes list : List ℕ) (size : Option ℕ) → size ≡ size_given lent bytes
     → JudgingAt lent bytes list size (replicate PAIRS 0) nothing_noted 0
 judging_start lent bytes list size long = record {
   sized = long;
@@ -55,7 +56,7 @@ judging_start lent bytes list size long = record {
   near = λ e. omega arith;
 }
 
-module _ {lent : Bool} {bytes list : List ℕ} {size : ℕ} {kilos : List ℕ} {noted : Noted} {at : ℕ}
+module _ {lent : Bool} {bytes list : List ℕ} {size : Option ℕ} {kilos : List ℕ} {noted : Noted} {at : ℕ}
     (j : JudgingAt lent bytes list size kilos noted at) where
   abbrev sheet : List ℕ
   sheet = sheet_given lent bytes list
@@ -74,23 +75,20 @@ module _ {lent : Bool} {bytes list : List ℕ} {size : ℕ} {kilos : List ℕ} {
 
   -- ---- a line is there
 
-  module _ (more : at < length (sheet_given lent bytes list)) (l : LineRead) (read : ReadAt (sheet_given lent bytes list) at l)
-      (near : Near lent (l.end + 1) (noted.lines + 1)) where
-    -- a line of lent records has its LF, so that any place may stand for the sheet's end
-    ended : not (eqb l.end size) ≡ not (eqb l.end (length sheet))
-    ended = ap (λ (n : ℕ). not (eqb l.end n)) j.sized ∙ go lent refl j.spelt near more read
+  module _ (more : at < length (sheet_given lent bytes list)) (l : LineRead) (read : ReadAt (sheet_given lent bytes list) at l) where
+    -- a line of lent records has its LF, so that its end is not the sheet's
+    ended : lacks_lf l.end size ≡ eqb l.end (length sheet)
+    ended = ap (lacks_lf l.end) j.sized ∙ go lent j.spelt more read
       where
-        go : (b : Bool) → lent ≡ b → Spelt b list at lines → Near b (l.end + 1) (lines + 1)
-            → at < length (sheet_given b bytes list) → ReadAt (sheet_given b bytes list) at l
-            → not (eqb l.end (size_given b bytes)) ≡ not (eqb l.end (length (sheet_given b bytes list)))
-        go false e spelt near more read = refl
-        go true e spelt near more read =
+        go : (b : Bool) → Spelt b list at lines → at < length (sheet_given b bytes list) → ReadAt (sheet_given b bytes list) at l
+            → lacks_lf l.end (size_given b bytes) ≡ eqb l.end (length (sheet_given b bytes list))
+        go false spelt more read = refl
+        go true spelt more read =
             let some = there true bytes list at lines refl spelt more in
             let inside = ended_lent list at lines (spelt refl) some l.end read.end in
-            let low = near refl in
-            rw (ne_eqb l.end (2 ^ 64 - 1) (λ z. omega (arith, few)), ne_eqb l.end (length (sheet_lent list)) (λ z. omega arith))
+            sym (ne_eqb l.end (length (sheet_lent list)) (λ z. omega arith))
 
-    number_is : read_number limits l size (above_of works kilos l) ≡ read_number limits l (length sheet) (above_of works kilos l)
+    number_is : read_number limits l size (above_of works kilos l) ≡ read_number limits l (Some (length sheet)) (above_of works kilos l)
     number_is = rw ended
 
     pub judged_refused : (n : ℕ) → n ≡ read_number limits l size (above_at noted kilos l) → (n ≡ 0 → ⊥)
@@ -117,9 +115,9 @@ module _ {lent : Bool} {bytes list : List ℕ} {size : ℕ} {kilos : List ℕ} {
           go false e spelt more read = absurd (never e)
 
       -- the next place
-      pub judging_next : {noted' : Noted} {kilos' : List ℕ} → noted' ≡ noted_after noted l → kilos' ≡ kilos_after kilos l
-          → JudgingAt lent bytes list size kilos' noted' (l.end + 1)
-      judging_next noted-are kilos-are =
+      pub judging_next : Near lent (l.end + 1) (noted.lines + 1) → {noted' : Noted} {kilos' : List ℕ} → noted' ≡ noted_after noted l
+          → kilos' ≡ kilos_after kilos l → JudgingAt lent bytes list size kilos' noted' (l.end + 1)
+      judging_next near noted-are kilos-are =
           rw (noted-are, kilos-are) (record {
             sized = j.sized;
             books = _;

@@ -1,5 +1,5 @@
 -- For the code only: a sheet judged from its bytes or from lent records.
-use Rattle.std.specs.Prelude.{◌≡◌, Bool, true, false, cond, List, [], ℕ, ◌-◌, ◌*◌, ◌^◌, ◌≤◌, length, drop, Result, MatchResult}
+use Rattle.std.specs.Prelude.{◌≡◌, Bool, true, false, cond, List, [], Option, None, Some, ℕ, ◌*◌, ◌≤◌, length, drop, Result, MatchResult}
 use Rattle.quantity.specs.Limits.{limits}
 use Rattle.lines.specs.Lines.{lines_of}
 use Rattle.lines.specs.Records.{records_of}
@@ -30,9 +30,9 @@ list_of (Lent records) = records.now
 abbrev pub sheet_of : SheetGiven → List ℕ
 sheet_of given = sheet_given (is_lent given) (bytes_of given) (list_of given)
 
--- the place of a line's end where the line lacks its LF: none in what lent records spell
-abbrev pub size_given : (lent : Bool) → (bytes : List ℕ) → ℕ
-size_given lent bytes = cond lent (2 ^ 64 - 1) (length bytes)
+-- how many bytes the sheet has, None where each of its lines has its LF: those of lent records do
+abbrev pub size_given : (lent : Bool) → (bytes : List ℕ) → Option ℕ
+size_given lent bytes = cond lent None (Some (length bytes))
 
 -- behind so many lines, what the records from there on spell starts at the place
 abbrev pub Spelt : (lent : Bool) → (list : List ℕ) → (at lines : ℕ) → Type 0

@@ -1,14 +1,15 @@
-// Document 01, "Sheets sent back": the verdict of a sheet by rows 1 to 14, from its bytes or from the records that a caller lends. Its lines are judged
-// and noted as those of a sheet that is reckoned; nothing is weighed.
+// Document 01, "Sheets sent back": the verdict of a sheet by rows 1 to 14, from its bytes or from the records that a caller lends. Its
+// lines are judged and noted as those of a sheet that is reckoned; nothing is weighed.
 #![tactic(auto)]
 
-ghost use Rattle.std.specs.Prelude.{◌≡◌, ◌+◌, ◌≤◌, ◌<◌, ltb, length};
+ghost use Rattle.std.specs.Prelude.{◌≡◌, ◌+◌, ◌^◌, ◌≤◌, ◌<◌, ltb, length};
 ghost use Rattle.quantity.specs.Limits.{limits};
 ghost use Rattle.lines.specs.Words.{ReadAt};
 ghost use Rattle.lent.specs.Lent.{sheet_lent};
 ghost use Rattle.judged.specs.Judged.{is_lent, bytes_of, list_of, sheet_of, size_given, Spelt, Near, LinesJudged, SheetJudged};
 
 use checks::refusals::{Refusal, Refused};
+use entries::KeptLine;
 use goods::{KilosByPair, PAIRS};
 use lent::{RECORD, lent_line};
 use lines::LineRead;
@@ -32,39 +33,44 @@ enum SheetGiven<'a> {
     Lent(&'a [u64]),
 }
 
-// Whether a line starts at a place of the sheet, behind so many lines.
-fn more(sheet: SheetGiven, at: usize, lines: usize) -> bool
-    requires spelt { Spelt (is_lent sheet) (list_of sheet) at lines }
-    requires few { lines ≤ limits.lines }
-    ensures { result ≡ ltb at (length (sheet_of sheet.entry)) }
-{
-    match sheet {
-        SheetGiven::Bytes(s) => at < s.len(),
-        SheetGiven::Lent(records) => lines * RECORD < records.len(),
+impl<'a> SheetGiven<'a> {
+    // Whether a line starts at a place of the sheet, behind so many lines.
+    #[tactic(auto, using(crate::proofs::Given::more_lent))]
+    fn more(self, at: usize, lines: usize) -> bool
+        requires spelt { Spelt (is_lent self) (list_of self) at lines }
+        requires few { lines ≤ limits.lines }
+        ensures { result ≡ ltb at (length (sheet_of self.entry)) }
+    {
+        match self {
+            SheetGiven::Bytes(s) => at < s.len(),
+            SheetGiven::Lent(records) => lines * RECORD < records.len(),
+        }
     }
-}
 
-// The place of the line that would lack its LF: no line of lent records does.
-fn size_of(sheet: SheetGiven) -> usize
-    ensures { result ≡ size_given (is_lent sheet.entry) (bytes_of sheet.entry) }
-{
-    match sheet {
-        SheetGiven::Bytes(s) => s.len(),
-        SheetGiven::Lent(_) => usize::MAX,
+    // How many bytes the sheet has, None where each of its lines has its LF, as those of lent records do.
+    fn size(self) -> Option<usize>
+        ensures value { result ≡ size_given (is_lent self.entry) (bytes_of self.entry) }
+        ensures bounded { length (bytes_of self.entry) < 2 ^ 64 }
+    {
+        match self {
+            SheetGiven::Bytes(s) => Some(s.len()),
+            SheetGiven::Lent(_) => None,
+        }
     }
-}
 
-// The line that starts at a place of the sheet, behind so many lines: read from its bytes, or taken from the record that spells it.
-fn line_at(sheet: SheetGiven, at: usize, lines: usize) -> LineRead
-    requires spelt { Spelt (is_lent sheet) (list_of sheet) at lines }
-    requires few { (lines ≤ limits.lines) × Near (is_lent sheet) at lines }
-    requires inside { at < length (sheet_of sheet) }
-    ensures read_at { ReadAt (sheet_of sheet.entry) at result }
-    ensures bounded { Near (is_lent sheet.entry) (result.end + 1) (lines + 1) }
-{
-    match sheet {
-        SheetGiven::Bytes(s) => read_line(s, at),
-        SheetGiven::Lent(records) => lent_line(records, lines * RECORD, at),
+    // The line that starts at a place of the sheet, behind so many lines: read from its bytes, or taken from the record that spells it.
+    #[tactic(auto, using(crate::proofs::Given::there))]
+    fn line_at(self, at: usize, lines: usize) -> LineRead
+        requires spelt { Spelt (is_lent self) (list_of self) at lines }
+        requires few { (lines ≤ limits.lines) × Near (is_lent self) at lines }
+        requires inside { at < length (sheet_of self) }
+        ensures read_at { ReadAt (sheet_of self.entry) at result }
+        ensures bounded { Near (is_lent self.entry) (result.end + 1) (lines + 1) }
+    {
+        match self {
+            SheetGiven::Bytes(s) => read_line(s, at),
+            SheetGiven::Lent(records) => lent_line(records, lines * RECORD, at),
+        }
     }
 }
 
@@ -72,19 +78,20 @@ fn line_at(sheet: SheetGiven, at: usize, lines: usize) -> LineRead
 fn judge_lines(sheet: SheetGiven) -> Result<Judged, Refused>
     ensures { LinesJudged (sheet_of sheet.entry) result }
 {
-    let size = size_of(sheet);
+    let size = sheet.size();
     let mut kilos: KilosByPair = [0; PAIRS];
     let mut noted = Noted::none();
     let mut at: usize = 0;
-    // where a line ends is known when it is read, so that nothing can be counted before
-    while more(sheet, at, noted.lines) {
-        let l = line_at(sheet, at, noted.lines);
-        if let Err(refusal) = noted.judge(&kilos, &l, size) {
-            let line = noted.lines + 1;
-            return Err(Refused { refusal, line });
-        }
+    // not `records::Lines`, which reads bytes only: lent records are found by the number of lines, and the last place is the sheet's length
+    while sheet.more(at, noted.lines) {
+        let l = sheet.line_at(at, noted.lines);
+        let line = noted.lines + 1;
+        noted
+            .judge(&kilos, &l, size)
+            .map_err(|refusal| Refused { refusal, line })?;
         at = l.end + 1;
-        note_line(&mut noted, &mut kilos, &l);
+        let kept = KeptLine { line: &l };
+        note_line(&mut noted, &mut kilos, kept);
     }
     Ok(Judged {
         lines: noted.lines,
@@ -93,6 +100,7 @@ fn judge_lines(sheet: SheetGiven) -> Result<Judged, Refused>
 }
 
 // The verdict of a sheet.
+#[tactic(auto, using(crate::proofs::Whole::too_long, crate::proofs::Whole::none_at_all, crate::proofs::Whole::lines_decide))]
 pub fn judge_sheet(s: &[u8]) -> Result<Judged, Refused>
     ensures { SheetJudged s.now result }
 {
@@ -105,8 +113,9 @@ pub fn judge_sheet(s: &[u8]) -> Result<Judged, Refused>
     judge_lines(SheetGiven::Bytes(s))
 }
 
-// The verdict of the sheet that lent records spell. Row 1 comes first in the verdict and is asked last: the lines of an accepted sheet are measured as
-// they are judged, and only a refused one is measured by itself.
+// The verdict of the sheet that lent records spell. Row 1 comes first in the verdict and is asked last: the lines of an accepted sheet
+// are measured as they are judged, and only a refused one is measured by itself.
+#[tactic(auto, using(crate::proofs::Whole::too_long, crate::proofs::Whole::none_at_all, crate::proofs::Whole::lines_decide, crate::proofs::Whole::none_spelt, crate::proofs::Whole::some_spelt))]
 pub fn judge_records(records: &[u64]) -> Result<Judged, Refused>
     ensures { SheetJudged (sheet_lent records.now) result }
 {

@@ -1,5 +1,7 @@
 // Document 01, "The sheet": rows 5 to 13 of a P line, of a B line and of a G line; the other kinds have crates of their own. A function has
-// its kind's row of the table of kinds, a step a field from the left, and then what the lines above must say.
+// its kind's row of the table of kinds, a step a field from the left, and then what the lines above must say. One function over rows held
+// as constants was tried, with an earlier compiler: it did not inline the row and put it on the stack, for each line (docs/BENCHMARK.md,
+// "Dropped").
 #![tactic(auto, unfolding(sheet::specs::Kinds::rules, checks::specs::Judged::fields_number, checks::specs::Judged::order_number, checks::specs::Steps::words_number))]
 
 ghost use Rattle.std.specs.Prelude.{◌≡◌};

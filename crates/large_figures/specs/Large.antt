@@ -14,9 +14,9 @@ any_large (suc n) figure = any_large n figure || leb whole_grams (figure (suc n)
 -- the figures of processes 1 .. count
 abbrev pub large_rows : Closing → (count : ℕ) → Bool
 large_rows c count =
-    (((any_large count (figures c.direct.0) || any_large count (figures c.indirect.0)) || any_large count (figures c.raised.0))
-    || (any_large count (figures c.direct_pools.0) || any_large count (figures c.indirect_pools.0)))
-    || (any_large count (figures c.direct_lefts.0) || any_large count (figures c.indirect_lefts.0))
+    (((any_large count (figures c.attributed.direct.0) || any_large count (figures c.attributed.indirect.0)) || any_large count (figures c.raised.0))
+    || (any_large count (figures c.pools.direct.0) || any_large count (figures c.pools.indirect.0)))
+    || (any_large count (figures c.lefts.direct.0) || any_large count (figures c.lefts.indirect.0))
 
 -- an i64 is so large, its sign aside, only where it is the least of them
 abbrev pub large_totals : (left : ℕ) → (entered : ℤ) → (raised uncredited : ℕ) → Bool

@@ -7,52 +7,43 @@ ghost use Rattle.large_figures.specs.Large.{any_large, large_rows, large_totals,
 
 use goods::GramsByProcess;
 use quantity::limits::WHOLE_GRAMS;
-use quantity::{Grams, SignedGrams};
 use reckoning::{Closing, Reckoning};
 
-// Of processes 1 .. count.
+// Of processes 1 .. count: a plain number, for the reason at `ledger::raise_all`.
 fn too_large(a: &GramsByProcess, count: usize) -> bool
     requires { count < SIZE }
     ensures { result ≡ any_large count (figures a.now.0) }
 {
-    a.0[1..=count]
-        .iter()
-        .fold(false, |large, grams| large | (*grams >= WHOLE_GRAMS))
+    a.0[1..=count].iter().any(|grams| *grams >= WHOLE_GRAMS)
 }
 
 // Row 15 over the figures of processes.
-fn large_rows(f: Closing, count: usize) -> bool
+fn large_rows(f: &Closing, count: usize) -> bool
     requires { count < SIZE }
-    ensures { result ≡ large_rows f count }
+    ensures { result ≡ large_rows f.now count }
 {
-    let attributed = too_large(&f.direct, count)
-        | too_large(&f.indirect, count)
+    let attributed = too_large(&f.attributed.direct, count)
+        | too_large(&f.attributed.indirect, count)
         | too_large(&f.raised, count);
-    let pooled = too_large(&f.direct_pools, count) | too_large(&f.indirect_pools, count);
-    let left = too_large(&f.direct_lefts, count) | too_large(&f.indirect_lefts, count);
+    let pooled = too_large(&f.pools.direct, count) | too_large(&f.pools.indirect, count);
+    let left = too_large(&f.lefts.direct, count) | too_large(&f.lefts.indirect, count);
     attributed | pooled | left
 }
 
 // Row 15 over the totals. What entered is as large as it is without its sign.
-fn large_totals(left: Grams, entered: SignedGrams, raised: Grams, uncredited: Grams) -> bool
-    ensures { result ≡ large_totals left.0 entered.0 raised.0 uncredited.0 }
+fn large_totals(r: &Reckoning) -> bool
+    ensures { result ≡ large_totals r.now.figures.left.0 r.now.entered.0 r.now.figures.total_raised.0 r.now.uncredited.0 }
 {
-    (WHOLE_GRAMS <= left.0)
-        | (WHOLE_GRAMS <= entered.0.unsigned_abs())
-        | (WHOLE_GRAMS <= raised.0)
-        | (WHOLE_GRAMS <= uncredited.0)
+    (WHOLE_GRAMS <= r.figures.left.0)
+        | (WHOLE_GRAMS <= r.entered.0.unsigned_abs())
+        | (WHOLE_GRAMS <= r.figures.total_raised.0)
+        | (WHOLE_GRAMS <= r.uncredited.0)
 }
 
 // Row 15 over a reckoning.
-pub fn is_large(r: Reckoning) -> bool
-    requires { r.count < SIZE }
-    ensures { result ≡ large r }
+pub fn is_large(r: &Reckoning) -> bool
+    requires { r.now.count < SIZE }
+    ensures { result ≡ large r.now }
 {
-    large_rows(r.figures, r.count)
-        | large_totals(
-            r.figures.left,
-            r.entered,
-            r.figures.total_raised,
-            r.uncredited,
-        )
+    large_rows(&r.figures, r.count) | large_totals(r)
 }

@@ -1,6 +1,5 @@
 -- For the code only: what an array holds at the number of each process, and how large it is.
 use Rattle.std.specs.Prelude.{List, ℕ, ◌+◌, ◌^◌, ◌≤◌, ◌<◌, ℤ, pos, nat_abs, get_or}
-use Rattle.goods.specs.ByProcess.{SIZE}
 
 -- the signed figure of process k
 abbrev pub signed_figures : List ℤ → (k : ℕ) → ℤ
@@ -16,10 +15,6 @@ SizeAtMost most l = (k : ℕ) → nat_abs (get_or l k (pos 0)) ≤ most
 -- the most that a figure may be, its sign aside, before an entry is booked: with the entry it still stays below 2^63
 abbrev pub BEFORE_ENTRY : ℕ
 BEFORE_ENTRY = 9200000000000000000
-
--- an amount can be added in one place
-abbrev pub RoomAt : List ℕ → (k amount : ℕ) → Type 0
-RoomAt l k amount = (k < SIZE) × (get_or l k 0 + amount < 2 ^ 64)
 
 -- two figures of process k together, and that they fit
 abbrev pub together : (a b : List ℕ) → (k : ℕ) → ℕ

@@ -4,7 +4,6 @@ use Rattle.quantity.specs.Limits.{line_grams}
 use Rattle.goods.specs.ByProcess.{SIZE}
 use Rattle.ledger.specs.declared.Entry.{Entry}
 use Rattle.ledger.specs.declared.Ledger.{Ledger}
-use Rattle.ledger.specs.declared.Totals.{Totals}
 use Rattle.ledger.specs.Columns.{AtMost, SizeAtMost, BEFORE_ENTRY}
 
 -- an amount added in one place
@@ -29,16 +28,13 @@ booked l e = record {
   };
 }
 
-abbrev pub nothing_moved : Totals
-nothing_moved = record { entered = record { 0 = pos 0 }; uncredited = record { 0 = 0 } }
-
 unfoldable pub start : Ledger
 start = record {
   balances = record { 0 = replicate SIZE (pos 0) };
   indirect = record { 0 = replicate SIZE 0 };
   bought_direct = record { 0 = replicate SIZE 0 };
   bought_indirect = record { 0 = replicate SIZE 0 };
-  totals = nothing_moved;
+  totals = record { entered = record { 0 = pos 0 }; uncredited = record { 0 = 0 } };
 }
 
 -- an entry of grams that a line can have

@@ -1,21 +1,20 @@
 // The figures of a works while its lines are read: document 01, "Attribution". Each line is booked as one entry.
 #![tactic(auto)]
 
-ghost use Rattle.std.specs.Prelude.{◌≡◌, pos, nat_abs, ◌+ℤ◌, ◌-ℤ◌, ◌+◌, ◌≤◌, ◌<◌};
-ghost use Rattle.quantity.specs.Limits.{whole_grams, line_grams};
+ghost use Rattle.std.specs.Prelude.{◌≡◌, nat_abs, ◌≤◌, ◌<◌};
+ghost use Rattle.quantity.specs.Limits.{whole_grams};
 ghost use Rattle.goods.specs.Sums.{sum_to};
 ghost use Rattle.goods.specs.ByProcess.{SIZE, figures, Column};
 ghost use Rattle.goods.specs.Settling.{NoFigures};
-ghost use Rattle.ledger.specs.Ledger.{Small, Room, added, booked, charged_and_credited};
-ghost use Rattle.ledger.specs.Moved.{no_grams_moved};
+ghost use Rattle.ledger.specs.Ledger.{Small, Room, booked};
 ghost use Rattle.ledger.specs.Raising.{grams_added, raised_to_zero};
-ghost use Rattle.ledger.specs.Columns.{BEFORE_ENTRY, SizeAtMost, RoomAt, FitTogether, signed_figures, together};
+ghost use Rattle.ledger.specs.Columns.{BEFORE_ENTRY, SizeAtMost, FitTogether, signed_figures, together};
 
 use goods::{GramsByProcess, SIZE, SignedGramsByProcess};
 use quantity::{Grams, SignedGrams};
 
-// What one line moves, in grams. Process 0 is outside the works.
-#[derive(Clone, Copy)]
+// What one line moves, in grams; its default moves none. Process 0 is outside the works.
+#[derive(Clone, Copy, Default)]
 pub struct Entry {
     // the process charged, and the process credited
     pub charged: usize,
@@ -35,35 +34,15 @@ pub struct Entry {
     pub uncredited: Grams,
 }
 
-// A line that moves no grams. It is written out, since Grams has no default.
-pub fn nothing() -> Entry
-    ensures { result ≡ no_grams_moved }
-{
-    Entry {
-        charged: 0,
-        charge: Grams(0),
-        credited: 0,
-        credit: Grams(0),
-        user: 0,
-        electricity: Grams(0),
-        buyer: 0,
-        direct: Grams(0),
-        indirect: Grams(0),
-        entering: Grams(0),
-        leaving: Grams(0),
-        uncredited: Grams(0),
-    }
-}
-
 // The grams of the whole works: what entered it, less what left it, and what stays uncredited.
-#[derive(Clone, Copy)]
+#[derive(Clone, Copy, Default)]
 pub struct Totals {
     pub entered: SignedGrams,
     pub uncredited: Grams,
 }
 
 // The grams of each process by its number, and those of the whole works: a struct by value with an array for each figure, as document 01 names it.
-#[derive(Clone, Copy)]
+#[derive(Clone, Copy, Default)]
 pub struct Ledger {
     pub balances: SignedGramsByProcess,
     pub indirect: GramsByProcess,
@@ -72,47 +51,20 @@ pub struct Ledger {
     pub totals: Totals,
 }
 
-// The balances with the charge added and the credit taken off.
-pub fn charge(balances: &mut [i64; SIZE], e: Entry)
-    requires size_at_most { SizeAtMost BEFORE_ENTRY balances.old }
-    requires small { Small e }
-    ensures { balances.new ≡ charged_and_credited balances.old e.charged e.charge.0 e.credited e.credit.0 }
-{
-    // The casts lose nothing, and `i64::try_from` would add an error that cannot come.
-    balances[e.charged] += e.charge.0 as i64;
-    balances[e.credited] -= e.credit.0 as i64;
-}
-
-// Grams added in the place of a process, in one lent column of the ledger. The array is lent, as three columns of two structs are.
-pub fn add(column: &mut [u64; SIZE], at: usize, grams: Grams)
-    requires { RoomAt column.old at grams.0 }
-    ensures { column.new ≡ added column.old at grams.0 }
-{
-    column[at] += grams.0;
-}
-
-// What entered the works, with what the entry lets in and out.
-pub fn enter(entered: &mut i64, e: Entry)
-    requires entered_bound { nat_abs entered.old ≤ BEFORE_ENTRY }
-    requires small { Small e }
-    ensures { entered.new ≡ entered.old +ℤ pos e.entering.0 -ℤ pos e.leaving.0 }
-{
-    *entered = *entered + (e.entering.0 as i64) - (e.leaving.0 as i64);
-}
-
 impl Ledger {
     // One entry booked.
-    #[tactic(auto, unfolding(crate::specs::Ledger::booked))]
     pub fn book(&mut self, e: Entry)
         requires small { Small e }
         requires room { Room self.old }
         ensures { self.new ≡ booked self.old e }
     {
-        charge(&mut self.balances.0, e);
-        add(&mut self.indirect.0, e.user, e.electricity);
-        add(&mut self.bought_direct.0, e.buyer, e.direct);
-        add(&mut self.bought_indirect.0, e.buyer, e.indirect);
-        enter(&mut self.totals.entered.0, e);
+        // The casts lose nothing, and `i64::try_from` would add an error that cannot come.
+        self.balances.0[e.charged] += e.charge.0 as i64;
+        self.balances.0[e.credited] -= e.credit.0 as i64;
+        self.indirect.0[e.user] += e.electricity.0;
+        self.bought_direct.0[e.buyer] += e.direct.0;
+        self.bought_indirect.0[e.buyer] += e.indirect.0;
+        self.totals.entered.0 = self.totals.entered.0 + e.entering.0 as i64 - e.leaving.0 as i64;
         self.totals.uncredited.0 += e.uncredited.0;
     }
 }
@@ -143,8 +95,11 @@ pub fn raise(balance: SignedGrams) -> Raised
     }
 }
 
-// In this function and the next two `count` is a plain number, as it is in the state of the works, which has its bound.
-// Each balance raised to zero: the outcomes in `direct` and the grams added in `raised`, which hold zeros at entry.
+// `count` of this function and the next two is a plain number, as it is in the state of the works. Its bound is part of what closing asks
+// (`Ready`): a type that keeps it would be made of that number there, and each loop would take the number out again.
+
+// Each balance raised to zero: the outcomes in `direct` and the grams added in `raised`, which hold zeros at entry. They are lent, and in
+// `add_all` too: a column that is given back is copied into the struct that closing fills.
 pub fn raise_all(
     direct: &mut GramsByProcess,
     raised: &mut GramsByProcess,

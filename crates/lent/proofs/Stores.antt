@@ -3,13 +3,11 @@
 use mathlib.Core.Path.{◌≡◌, refl, sym, ap, ◌∙◌}
 use mathlib.Core.Bool.{true}
 use mathlib.Core.List.{List}
-use Prim.Native.Nat.{ℕ, ◌+◌, ◌-◌, ◌<◌, min}
-use native.Mathlib.Decide.{dec_le}
-use native.Mathlib.Nat.{lt_of_not-le}
+use Prim.Native.Nat.{ℕ, ◌+◌, ◌-◌, ◌≤◌, ◌<◌}
 use native.Mathlib.Omega.{arith}
 use borrow.Author.Tests.{eqb-true, eq-eqb, ne_eqb, ltb-true}
 use lib.Dec.{ltb}
-use lib.ListN.{length, take, drop, replicate, length-drop}
+use lib.ListN.{length, take, drop, replicate, length-take, length-drop}
 use lib.Seq.{take_all}
 use Rattle.lines.specs.Records.{Record}
 use Rattle.lines.specs.Words.{WORDS, words}
@@ -35,19 +33,13 @@ letter_small first some =
 
 -- ---- the record's part of the list
 
--- as many words as a record has, of those from a place on
-pub part_is : (list : List ℕ) (at n : ℕ) → n ≡ min (length (take (length list - at) (drop at list))) RECORD
-    → take n (take (length list - at) (drop at list)) ≡ words_at list at
-part_is list at n e =
-    let all : take (length list - at) (drop at list) ≡ drop at list = take_all (length list - at) (drop at list) (omega (arith, length-drop at list)) in
-    ap (λ (l : List ℕ). take n l) all ∙ first (drop at list) n (e ∙ ap (λ (l : List ℕ). min (length l) RECORD) all)
-  where
-    first : (l : List ℕ) (n : ℕ) → n ≡ min (length l) RECORD → take n l ≡ take RECORD l
-    first l n e =
-        elim (dec_le RECORD (length l)) [
-          | yes h ↦ ap (λ (n : ℕ). take n l) (let e : n ≡ RECORD = omega arith in e)
-          | no h ↦ let less = lt_of_not-le h in take_all n l (omega arith) ∙ sym (take_all RECORD l (omega arith))
-        ]
+-- the words of a record that is lent by itself
+pub alone : (ws : List ℕ) → length ws ≤ RECORD → ws ≡ words_at ws 0
+alone ws few = sym (take_all RECORD ws few)
+
+-- the part of a list from a place on
+from_there : (list : List ℕ) (at : ℕ) → take (length list - at) (drop at list) ≡ drop at list
+from_there list at = take_all (length list - at) (drop at list) (omega (arith, length-drop at list))
 
 module _ (list : List ℕ) (at : ℕ) (part : List ℕ) (part_is : part ≡ words_at list at) where
   -- what was read from the part is the record that starts there
@@ -69,3 +61,17 @@ module _ (list : List ℕ) (at : ℕ) (part : List ℕ) (part_is : part ≡ word
       lent_at start (record { letter = 0; count = 0; words = replicate WORDS 0; end = start }) (sym (ap (λ (r : Record). r.letter) none))
       (sym (ap (λ (r : Record). length r.said) none)) (sym (ap (λ (r : Record). words r.said) none))
       (omega (arith, ap (λ (r : Record). length (spell_lent r)) none))
+
+-- what was read of a part of the list is the record that starts there
+module _ (list : List ℕ) (at start : ℕ) (l : LineRead) where
+  there : (part : List ℕ) → words_at part 0 ≡ words_at list at → LentAt part 0 start l → LentAt list at start l
+  there part e r = lent_at list at (words_at part 0) e start l r.letter r.count r.words r.end
+
+  pub cut_at : LentAt (take (length list - at) (drop at list)) 0 start l → LentAt list at start l
+  cut_at r = there (take (length list - at) (drop at list)) (ap (take RECORD) (from_there list at)) r
+
+  pub full_at : LentAt (take RECORD (take (length list - at) (drop at list))) 0 start l → LentAt list at start l
+  full_at r =
+      let part : List ℕ = take (length list - at) (drop at list) in
+      let few : length (take RECORD part) ≤ RECORD = omega (arith, length-take RECORD part) in
+      there (take RECORD part) (take_all RECORD (take RECORD part) few ∙ ap (take RECORD) (from_there list at)) r

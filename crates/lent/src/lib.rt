@@ -9,6 +9,7 @@ ghost use Rattle.sheet.specs.Kinds.{kind_of};
 ghost use Rattle.lent.specs.Lent.{RECORD, field_lent, field_count, record_lent, spell_lent};
 
 use lines::{CAP, DASH, LineRead, WORDS};
+use sheet::Kind;
 
 // Words of one record: the kind's letter, then eight fields in the line's order.
 pub const RECORD: usize = 9;
@@ -17,20 +18,17 @@ pub const RECORD: usize = 9;
 pub const DASH_WORD: u64 = u64::MAX;
 
 // How many fields a line of this letter has, 0 for no letter of a kind.
-// A lent letter is a word of 64 bits, of which no byte and so no Kind is made before it is known to be a letter.
+// The definition `field_count` has 0 for Unknown.
 #[tactic(auto, unfolding(sheet::specs::Kinds::kind_of, sheet::specs::Kinds::kind_among, sheet::specs::Kinds::rules))]
 pub fn field_count(letter: u64) -> usize
     ensures { result ≡ field_count (kind_of letter) }
 {
-    match u8::try_from(letter) {
-        Ok(b'P') => 2,
-        Ok(b'S') => 8,
-        Ok(b'H') => 4,
-        Ok(b'W') => 3,
-        Ok(b'E') => 4,
-        Ok(b'B') => 4,
-        Ok(b'G') => 3,
-        _ => 0,
+    match u8::try_from(letter).map_or(Kind::Unknown, Kind::from) {
+        Kind::Process => 2,
+        Kind::SourceStream => 8,
+        Kind::MeasurableHeat | Kind::Electricity | Kind::BoughtPrecursor => 4,
+        Kind::WasteGas | Kind::OwnGood => 3,
+        Kind::Unknown => 0,
     }
 }
 
@@ -60,7 +58,7 @@ fn field_length(word: u64) -> usize
 // ---- a record
 
 // How many fields a lent record has, from the count of its kind: as many as its kind, or all words behind the letter where a further one is
-// not 0.
+// not 0. It is lent words and no `LentRecord`, since the count that a `LentRecord` holds is made of them.
 fn said_count(words: &[u64], count: usize) -> usize
     requires in_bounds { (1 ≤ length words.now) × (length words.now ≤ RECORD) }
     requires count_value { (count ≡ field_count (kind_of (get_or words.now 0 0))) × (1 ≤ count) }
@@ -149,17 +147,15 @@ pub fn line_length(words: &[u64]) -> usize
 
 // ---- a list of records
 
-// The record that starts at a place of the list, as the line that it spells: `start` is where the line starts in the sheet, and `end` the
-// place of its LF there.
-#[tactic(auto, using(crate::proofs::Stores::part_is, crate::proofs::Stores::lent_at))]
-pub fn lent_line(list: &[u64], place: usize, start: usize) -> LineRead
-    requires place_in_bounds { place < length list.now }
+// A record that is lent by itself, as the line that it spells: `start` is where the line starts in the sheet, and `end` the place of its LF there.
+#[inline(always)]
+#[tactic(auto, using(crate::proofs::Stores::alone, crate::proofs::Stores::lent_at))]
+fn line_of(words: &[u64], start: usize) -> LineRead
+    requires in_bounds { (1 ≤ length words.now) × (length words.now ≤ RECORD) }
     requires start_bound { start ≤ 2 ^ 32 }
-    ensures lent_at { LentAt list.now place start result }
+    ensures lent_at { LentAt words.now 0 start result }
     ensures bounded { (start ≤ result.end) × (result.end ≤ start + 169) }
 {
-    let behind = &list[place..];
-    let words = &behind[..behind.len().min(RECORD)];
     match LentRecord::of(words) {
         None => LineRead {
             letter: 0,
@@ -173,5 +169,22 @@ pub fn lent_line(list: &[u64], place: usize, start: usize) -> LineRead
             words: record.field_words(),
             end: start + record.length(),
         },
+    }
+}
+
+// The record that starts at a place of the list, as the line that it spells. The two calls are the same but for what the compiler knows: a
+// record that the list's end does not cut short has nine words.
+#[tactic(auto, using(crate::proofs::Stores::cut_at, crate::proofs::Stores::full_at))]
+pub fn lent_line(list: &[u64], place: usize, start: usize) -> LineRead
+    requires place_in_bounds { place < length list.now }
+    requires start_bound { start ≤ 2 ^ 32 }
+    ensures lent_at { LentAt list.now place start result }
+    ensures bounded { (start ≤ result.end) × (result.end ≤ start + 169) }
+{
+    let behind = &list[place..];
+    if behind.len() < RECORD {
+        line_of(behind, start)
+    } else {
+        line_of(&behind[..RECORD], start)
     }
 }

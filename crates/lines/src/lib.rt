@@ -4,13 +4,13 @@
 // As many fields as the longest line has after its first.
 pub const WORDS: usize = 8;
 
-// A field is held in one word: its number, where this stands for each that is as great or greater. It is above every range,
+// A field is held in one word. This is its number, where it stands for each that is as great or greater: it is above every range.
 pub const CAP: u64 = 1000000000000000;
 
-// or a mark for `-`,
+// The mark for `-`.
 pub const DASH: u64 = CAP + 1;
 
-// or a mark for anything else. Marks and no enum: the comparisons with a range's ends refuse both, as they refuse a number above it.
+// The mark for anything else. Marks and no enum: the comparisons with a range's ends refuse both, as they refuse a number above it.
 pub const OTHER: u64 = CAP + 2;
 
 // A line that was read: the letter that its first field is, 0 for another first field; how many fields follow it, the words of the

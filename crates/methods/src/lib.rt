@@ -1,4 +1,5 @@
-// Document 01, "Source streams": the fields of an S line from code on, judged by the rules of one method.
+// Document 01, "Source streams": the fields of an S line from code on, judged by the rules of one method. The rules are written out, and no
+// row of a table in code, for the reason in `kinds`.
 #![tactic(auto, unfolding(checks::specs::Steps::words_number))]
 
 ghost use Rattle.std.specs.Prelude.{◌≡◌};

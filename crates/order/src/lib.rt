@@ -37,12 +37,12 @@ pub fn known(n: u64, above: Above) -> Result<(), Refusal>
 }
 
 // Rows 9 and 10 of a line that names two.
+// barred is the outcome of the caller's test of the line, and no switch.
 pub fn ends(from: u64, to: u64, above: Above, barred: bool) -> Result<(), Refusal>
     ensures { number_judged result ≡ ends_number from to barred above }
 {
-    if ((above.processes as u64) < from) | ((above.processes as u64) < to) {
-        return Err(Refusal::MissingProcess);
-    }
+    known(from, above)?;
+    known(to, above)?;
     if barred {
         return Err(Refusal::EndsNotAllowed);
     }

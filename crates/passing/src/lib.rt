@@ -11,6 +11,7 @@ use shares::{BothGrams, Share, portions};
 
 // Process `from` passes portions of its pools on to its takers, by rising number; the result is what is left of its own. In document 01's terms
 // `own` has P, `output` is A, `taken` C(k−1), `through` C(k), and `given` has ⌊P × C(k−1)/A⌋.
+#[tactic(auto, using(goods::proofs::Portions::given_le, crate::proofs::Passing::portion_taken))]
 pub fn pass_on(
     pools: &mut BothGramsByProcess,
     output: Kilos,
@@ -28,11 +29,8 @@ pub fn pass_on(
         direct: Grams(pools.direct.0[from]),
         indirect: Grams(pools.indirect.0[from]),
     };
-    let mut taken = Kilos(0);
-    let mut given = BothGrams {
-        direct: Grams(0),
-        indirect: Grams(0),
-    };
+    let mut taken = Kilos::default();
+    let mut given = BothGrams::default();
     for to in from + 1..=count {
         let kg = kilos[from * SIZE + to];
         // Of no kilograms the portions are 0 either way.

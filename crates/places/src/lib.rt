@@ -38,7 +38,7 @@ fn line_start(s: &[u8], line: usize) -> usize
     start
 }
 
-// The place of a line in the sheet: of length 0 for line 0 and, at the sheet's end, past the last line.
+// The place of a line in the sheet: of length 0 for line 0 and, at the sheet's end, past the last line. No Option: C gets these two numbers.
 pub fn line_place(s: &[u8], line: usize) -> Place
     ensures { result ≡ offending_line s.now line }
 {

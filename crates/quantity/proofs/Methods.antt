@@ -1,20 +1,14 @@
 -- A source stream by its method, and numbers with a sign. Assumes nothing.
 use mathlib.Core.Bool.{Bool, true, false, cond}
-use mathlib.Core.Path.{◌≡◌, refl, sym, ap}
+use mathlib.Core.Path.{◌≡◌, refl}
 use Prim.Native.Nat.{ℕ, zero, suc}
 use borrow.Author.Tests.{ne_eqb}
 use lib.Dec.{eqb}
 use lib.IntN.{pos, neg_ℤ, nat_abs}
-use Rattle.quantity.specs.Streams.{combustion_grams, process_grams, carbon_grams, grams_before_biomass, counted}
+use Rattle.quantity.specs.Streams.{carbon_grams, grams_before_biomass, counted}
 
 -- ---- the grams before the biomass step, by method
 module _ (kilos a b c : ℕ) where
-  pub before_combustion : {m : ℕ} → m ≡ 1 → combustion_grams kilos a b c ≡ grams_before_biomass m kilos a b c
-  before_combustion e = ap (λ (k : ℕ). grams_before_biomass k kilos a b c) (sym e)
-
-  pub before_process : {m : ℕ} → m ≡ 2 → process_grams kilos a c ≡ grams_before_biomass m kilos a b c
-  before_process e = ap (λ (k : ℕ). grams_before_biomass k kilos a b c) (sym e)
-
   pub before_carbon : {m : ℕ} → (m ≡ 1 → ⊥) → (m ≡ 2 → ⊥) → carbon_grams kilos a ≡ grams_before_biomass m kilos a b c
   before_carbon {m} n₁ n₂ = simp (ne_eqb m 1 n₁, ne_eqb m 2 n₂)
 
@@ -22,9 +16,6 @@ module _ (kilos a b c : ℕ) where
 pub minus_size : (n : ℕ) → nat_abs (neg_ℤ (pos n)) ≡ n
 minus_size zero = refl
 minus_size (suc n) = refl
-
-pub counted_minus : {m : ℕ} (grams : ℕ) → m ≡ 4 → neg_ℤ (pos grams) ≡ counted m grams
-counted_minus grams e = ap (λ (k : ℕ). counted k grams) (sym e)
 
 pub counted_plus : {m : ℕ} (grams : ℕ) → (m ≡ 4 → ⊥) → pos grams ≡ counted m grams
 counted_plus {m} grams n = simp (ne_eqb m 4 n)

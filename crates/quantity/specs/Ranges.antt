@@ -1,9 +1,13 @@
--- For the code only: what the functions of `streams` ask of their arguments, the ranges of document 01's fields.
+-- For the code only: what the functions of `streams`, `grams`, `moves` and `transferred` ask of their arguments, the ranges of document 01's fields.
 use Rattle.std.specs.Prelude.{◌≡◌, ℕ, ◌≤◌}
 
 -- the most grams of one weight, charge, credit or source stream
 abbrev pub most_grams : ℕ
 most_grams = 1000000000000000
+
+-- the most megajoules of one line
+abbrev pub most_megajoules : ℕ
+most_megajoules = 1000000000000
 
 -- method 1
 pub record CombustionRange (kilos a b c : ℕ) : Type 0 where

@@ -7,15 +7,15 @@ pub mod method;
 ghost use Rattle.std.specs.Prelude.{◌≡◌, ℕ};
 
 // Grams of carbon dioxide.
-#[derive(Clone, Copy)]
+#[derive(Clone, Copy, Default)]
 pub struct Grams(pub u64);
 
 // Grams with a sign: what a source stream adds to a balance.
-#[derive(Clone, Copy)]
+#[derive(Clone, Copy, Default)]
 pub struct SignedGrams(pub i64);
 
 // Kilograms of goods, fuels and materials.
-#[derive(Clone, Copy)]
+#[derive(Clone, Copy, Default)]
 pub struct Kilos(pub u64);
 
 // Megajoules of heat, waste gas and fuel.

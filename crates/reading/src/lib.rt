@@ -4,11 +4,11 @@
 ghost use Rattle.gathering.specs.Gathered.{ReadOf, NoKilos};
 
 use checks::refusals::Refused;
-use entries::weigh;
+use entries::KeptLine;
 use gathering::nothing_read;
 use goods::KilosByPair;
 use noting::note_line;
-use records::read_line;
+use records::Lines;
 use works::Works;
 
 // All lines of a sheet; `kilos` gets the kilograms of each pair of processes.
@@ -17,17 +17,15 @@ pub fn read_lines(s: &[u8], kilos: &mut KilosByPair) -> Result<Works, Refused>
     ensures { ReadOf s.now kilos.new result }
 {
     let mut works = nothing_read();
-    let mut at: usize = 0;
-    // where a line ends is known when it is read, so that nothing can be counted before
-    while at < s.len() {
-        let l = read_line(s, at);
-        if let Err(refusal) = works.noted.judge(kilos, &l, s.len()) {
-            let line = works.noted.lines + 1;
-            return Err(Refused { refusal, line });
-        }
-        at = l.end + 1;
-        note_line(&mut works.noted, kilos, &l);
-        works.ledger.book(weigh(l));
+    for l in Lines::new(s) {
+        let line = works.noted.lines + 1;
+        works
+            .noted
+            .judge(kilos, &l, Some(s.len()))
+            .map_err(|refusal| Refused { refusal, line })?;
+        let kept = KeptLine { line: &l };
+        note_line(&mut works.noted, kilos, kept);
+        works.ledger.book(kept.weigh());
     }
     Ok(works)
 }

@@ -17,12 +17,12 @@ use Rattle.checks.specs.Numbers.{refused_by}
 use Rattle.checks.specs.declared.refusals.Refused.{Refused}
 use Rattle.sheet.proofs.First.{accepted_passes}
 use Rattle.goods.specs.ByProcess.{Column, figures}
-use Rattle.closing.specs.Closing.{Ready, Closed}
-use Rattle.reckoning.specs.declared.Closing.{Closing}
+use Rattle.closing.specs.Closing.{Ready}
+use Rattle.reckoning.specs.declared.Reckoning.{Reckoning}
 use Rattle.attribution.specs.Verdict.{reckoner_checks}
 use Rattle.gathering.specs.Gathered.{LinesPassed, LineRefused}
 use Rattle.reckoner.specs.Reckoned.{FiguresOf, Figured}
-use Rattle.reckoner.specs.Closed.{accepted_as}
+use Rattle.reckoner.specs.Closed.{ClosedAs}
 use Rattle.large_figures.specs.Large.{any_large, large_totals, large}
 use Rattle.works.specs.declared.Works.{Works}
 use Rattle.attribution.proofs.EveryKind.{Accepted}
@@ -51,10 +51,10 @@ module _ (sheet : List ℕ) where
   unfolding sheet_checks first_of
   none_at_all h e = rw (le-ltb limits.bytes (length sheet) h, eq-eqb (length sheet) 0 e)
 
-  by_lines : length sheet ≤ limits.bytes → (length sheet ≡ 0 → ⊥)
+  by_lines : length sheet ≤ limits.bytes → 0 < length sheet
       → first_of (sheet_checks limits sheet) ≡ first_of (lines_checks limits [] (lines_of sheet))
   unfolding sheet_checks first_of
-  by_lines h e = rw (le-ltb limits.bytes (length sheet) h, ne_eqb (length sheet) 0 e)
+  by_lines h e = rw (le-ltb limits.bytes (length sheet) h, ne_eqb (length sheet) 0 (λ z. omega arith))
 
   -- ---- an answer that refuses
 
@@ -64,13 +64,13 @@ module _ (sheet : List ℕ) where
   pub refused_empty : length sheet ≤ limits.bytes → length sheet ≡ 0 → first_of (reckoner_checks limits sheet) ≡ refused 14 0
   refused_empty h z = fifteen_never_given sheet ∙ none_at_all h z
 
-  module _ (short : length sheet ≤ limits.bytes) (some : length sheet ≡ 0 → ⊥) (kilos : List ℕ) where
-    pub refused_line : (e : Refused) → LineRefused sheet kilos e → first_of (reckoner_checks limits sheet) ≡ refused_by e
-    refused_line e of = fifteen_never_given sheet ∙ by_lines short some ∙ of.verdict
+  module _ (short : length sheet ≤ limits.bytes) (some : 0 < length sheet) {kilos : List ℕ} where
+    pub refused_line : {e : Refused} → LineRefused sheet kilos e → first_of (reckoner_checks limits sheet) ≡ refused_by e
+    refused_line of = fifteen_never_given sheet ∙ by_lines short some ∙ of.verdict
 
     -- ---- an answer that accepts
 
-    module _ (works : Works) (of : LinesPassed sheet kilos works) where
+    module _ {works : Works} (of : LinesPassed sheet kilos works) where
       verdict : first_of (sheet_checks limits sheet) ≡ accepted
       verdict = by_lines short some ∙ of.passed
 
@@ -89,26 +89,25 @@ module _ (sheet : List ℕ) where
       all_pass : first_of (reckoner_checks limits sheet) ≡ accepted
       all_pass = fifteen_never_given sheet ∙ verdict
 
-      module _ (c : Closing) (closed : Closed works.ledger works.noted.outputs.0 kilos works.noted.count c) where
-        figured : FiguresOf (records_of sheet) (accepted_as works c)
-        figured = figures_is (records_of sheet) works kilos of.gathered ok c closed
+      module _ (r : Reckoning) (closed : ClosedAs works kilos r) where
+        figured : FiguresOf (records_of sheet) r
+        figured = rw closed.is (figures_is (records_of sheet) works kilos of.gathered ok r.figures closed.closed)
 
-        pub accepted_answer : Figured sheet (accepted_as works c)
+        pub accepted_answer : Figured sheet r
         accepted_answer = record { passed = all_pass; figured = figured }
 
         -- THE THIRD PROPERTY of the returned totals
-        pub accepted_sum : pos c.left.0
-            ≡ works.ledger.totals.entered.0 +ℤ pos c.total_raised.0 +ℤ pos works.ledger.totals.uncredited.0
+        pub accepted_sum : pos r.figures.left.0 ≡ r.entered.0 +ℤ pos r.figures.total_raised.0 +ℤ pos r.uncredited.0
         accepted_sum =
             rw (figured.left_is, figured.entered_is, figured.raised_is, figured.uncredited_is)
             (left_is_entered_raised_uncredited (records_of sheet) ok)
 
         -- row 15 does not apply
-        below : {figure : ℕ → ℕ} {a : List ℕ} → Column works.noted.count figure a
-            → ((k : ℕ) → 1 ≤ k → k ≤ works.noted.count → figure k < whole_grams) → any_large works.noted.count (figures a) ≡ false
-        below {a = a} col h = none_large works.noted.count (figures a) (λ k l m. let e = col.at k l m in let f = h k l m in omega arith)
+        below : {figure : ℕ → ℕ} {a : List ℕ} → Column r.count figure a
+            → ((k : ℕ) → 1 ≤ k → k ≤ r.count → figure k < whole_grams) → any_large r.count (figures a) ≡ false
+        below {a = a} col h = none_large r.count (figures a) (λ k l m. let e = col.at k l m in let f = h k l m in omega arith)
 
-        pub not_large : large (accepted_as works c) ≡ false
+        pub not_large : large r ≡ false
         not_large =
             rw (
               below figured.directs (λ k l m. (row k l m).directs),
@@ -120,18 +119,18 @@ module _ (sheet : List ℕ) where
               below figured.indirect_lefts (λ k l m. (row k l m).indirect_lefts),
             ) totals
           where
-            row : (k : ℕ) → 1 ≤ k → k ≤ works.noted.count → RowBelow (records_of sheet) k
-            row k l m = row_below (records_of sheet) ok sums k l (omega (arith, of.gathered.count))
+            row : (k : ℕ) → 1 ≤ k → k ≤ r.count → RowBelow (records_of sheet) k
+            row k l m = row_below (records_of sheet) ok sums k l (omega (arith, figured.counted))
 
             least : (z : ℤ) → nat_abs z < whole_grams → le_z z (neg_ℤ (pos whole_grams)) ≡ false
             least (pos n) h = refl
             least (negsuc n) h = lt-leb (whole_grams - 1) n (omega arith)
 
-            totals : let t = works.ledger.totals in large_totals c.left.0 t.entered.0 c.total_raised.0 t.uncredited.0 ≡ false
+            totals : large_totals r.figures.left.0 r.entered.0 r.figures.total_raised.0 r.uncredited.0 ≡ false
             totals =
                 rw (
-                  lt-leb whole_grams c.left.0 (omega (arith, figured.left_is, left_below_limit (records_of sheet) ok sums)),
-                  least works.ledger.totals.entered.0 figured.entered_small,
-                  lt-leb whole_grams c.total_raised.0 (omega (arith, figured.raised_is, sums.raised)),
-                  lt-leb whole_grams works.ledger.totals.uncredited.0 (omega (arith, figured.uncredited_is, sums.uncredited)),
+                  lt-leb whole_grams r.figures.left.0 (omega (arith, figured.left_is, left_below_limit (records_of sheet) ok sums)),
+                  least r.entered.0 figured.entered_small,
+                  lt-leb whole_grams r.figures.total_raised.0 (omega (arith, figured.raised_is, sums.raised)),
+                  lt-leb whole_grams r.uncredited.0 (omega (arith, figured.uncredited_is, sums.uncredited)),
                 )

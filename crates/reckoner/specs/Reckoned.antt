@@ -19,13 +19,13 @@ pub record FiguresOf (rs : List Record) (r : Reckoning) : Type 0 where
   pub made : (k : ℕ) → 1 ≤ k → k ≤ r.count → 1 ≤ output rs k
   pub outputs_small : (k : ℕ) → output rs k ≤ MOST
   pub outputs : Column r.count (output rs) r.outputs.0
-  pub directs : Column r.count (direct rs) r.figures.direct.0
-  pub indirects : Column r.count (indirect rs) r.figures.indirect.0
+  pub directs : Column r.count (direct rs) r.figures.attributed.direct.0
+  pub indirects : Column r.count (indirect rs) r.figures.attributed.indirect.0
   pub raiseds : Column r.count (raised rs) r.figures.raised.0
-  pub direct_pools : Column r.count (direct_pool rs) r.figures.direct_pools.0
-  pub indirect_pools : Column r.count (indirect_pool rs) r.figures.indirect_pools.0
-  pub direct_lefts : Column r.count (direct_left rs) r.figures.direct_lefts.0
-  pub indirect_lefts : Column r.count (indirect_left rs) r.figures.indirect_lefts.0
+  pub direct_pools : Column r.count (direct_pool rs) r.figures.pools.direct.0
+  pub indirect_pools : Column r.count (indirect_pool rs) r.figures.pools.indirect.0
+  pub direct_lefts : Column r.count (direct_left rs) r.figures.lefts.direct.0
+  pub indirect_lefts : Column r.count (indirect_left rs) r.figures.lefts.indirect.0
   pub left_is : r.figures.left.0 ≡ total_left rs
   pub entered_is : r.entered.0 ≡ entered rs
   pub raised_is : r.figures.total_raised.0 ≡ total_raised rs

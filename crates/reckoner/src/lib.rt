@@ -15,28 +15,26 @@ use reading::read_lines;
 use reckoning::Reckoning;
 use works::Works;
 
-// The figures of a works whose lines are all noted.
-fn figures_of(works: Works, kilos: &KilosByPair) -> Reckoning
-    requires { Ready works.ledger works.noted.outputs.0 kilos.now works.noted.count }
-    ensures { ClosedAs works kilos.now result }
+// The figures of a works whose lines are all noted. Neither this function nor `reckon` is inlined: the compiler sets the large locals of a
+// function to zero where it starts, and hands large results of inlined functions on part by part.
+#[inline(never)]
+fn figures_of(works: &Works, kilos: &KilosByPair) -> Reckoning
+    requires { Ready works.now.ledger works.now.noted.outputs.0 kilos.now works.now.noted.count }
+    ensures { ClosedAs works.now kilos.now result }
 {
-    let ledger = works.ledger;
-    let count = works.noted.count;
-    let outputs = works.noted.outputs;
-    let totals = ledger.totals;
-    let entered = totals.entered;
-    let uncredited = totals.uncredited;
-    let figures = close(ledger, outputs, kilos, count);
+    let Works { noted, ledger } = works;
     Reckoning {
-        count,
-        outputs,
-        figures,
-        entered,
-        uncredited,
+        count: noted.count,
+        outputs: noted.outputs,
+        figures: close(*ledger, &noted.outputs, kilos, noted.count),
+        entered: ledger.totals.entered,
+        uncredited: ledger.totals.uncredited,
     }
 }
 
 // The reckoning of a sheet.
+#[tactic(auto, using(crate::proofs::Answer::refused_bytes, crate::proofs::Answer::refused_empty, crate::proofs::Answer::not_large))]
+#[inline(never)]
 pub fn reckon(s: &[u8]) -> Result<Reckoning, Refused>
     ensures reckoned { Reckoned s.now result }
     ensures sum { IfOk result (λ r. pos r.figures.left.0 ≡ r.entered.0 +ℤ pos r.figures.total_raised.0 +ℤ pos r.uncredited.0) }
@@ -49,8 +47,8 @@ pub fn reckon(s: &[u8]) -> Result<Reckoning, Refused>
     }
     let mut kilos: KilosByPair = [0; PAIRS];
     let works = read_lines(s, &mut kilos)?;
-    let r = figures_of(works, &kilos);
-    if is_large(r) {
+    let r = figures_of(&works, &kilos);
+    if is_large(&r) {
         return Err(Refused::from(Refusal::FigureTooLarge));
     }
     Ok(r)

@@ -1,21 +1,18 @@
 // What the reckoner gives of an accepted sheet: document 01, the figures of "The report".
 #![tactic(auto)]
 
-use goods::{GramsByProcess, KilosByProcess};
+use goods::{BothGramsByProcess, GramsByProcess, KilosByProcess};
 use quantity::{Grams, SignedGrams};
 
 // Grams of each process by its number, and the totals `left` and `raised` of the works.
 #[derive(Clone, Copy)]
 pub struct Closing {
     // attribution, and the grams that raised the balance to zero
-    pub direct: GramsByProcess,
-    pub indirect: GramsByProcess,
+    pub attributed: BothGramsByProcess,
     pub raised: GramsByProcess,
     // pools, and what is left of them
-    pub direct_pools: GramsByProcess,
-    pub indirect_pools: GramsByProcess,
-    pub direct_lefts: GramsByProcess,
-    pub indirect_lefts: GramsByProcess,
+    pub pools: BothGramsByProcess,
+    pub lefts: BothGramsByProcess,
     pub left: Grams,
     pub total_raised: Grams,
 }

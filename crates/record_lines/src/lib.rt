@@ -15,8 +15,8 @@ use quantity::limits::BYTES;
 
 // ---- fields
 
-// Writes a comma and a field before a place, and gives the place of the comma. Space and place stay apart: a struct that holds a lent space is no plainer
-// for two functions.
+// Writes a comma and a field before a place, and gives the place of the comma. Space and place are two parameters,
+// here and wherever bytes are put: clauses say by `Put` where bytes stand in the whole space, and what is written gives the next place.
 fn put_field(space: &mut [u8], end: usize, word: u64) -> usize
     requires { (length (spell_field (field_lent word)) + 1 ≤ end) × (end ≤ length space.old) }
     ensures { Put space.old result (COMMA ∷ spell_field (field_lent word)) space.new end }
@@ -36,6 +36,7 @@ fn put_field(space: &mut [u8], end: usize, word: u64) -> usize
 
 // Writes the line of a lent record before a place of a lent space, its LF too, and gives the place where the line starts. The record keeps
 // its ranges: it has as many fields as its kind.
+#[inline(always)]
 fn put_record(space: &mut [u8], end: usize, words: &[u64]) -> usize
     requires keeps_ranges { KeepsRanges limits (record_lent words.now) }
     requires words_len_bound { (length (spell_lent (record_lent words.now)) + 1 ≤ end) × (end ≤ length space.old) }

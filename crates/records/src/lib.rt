@@ -1,9 +1,11 @@
-// A line read from the sheet's bytes: its letter, then its fields.
+// A line read from the sheet's bytes: its letter, then its fields. And the lines of a sheet one after the other.
 #![tactic(auto)]
 
-ghost use Rattle.std.specs.Prelude.{◌≡◌, ◌≤◌, ◌<◌, length};
+ghost use Rattle.std.specs.Prelude.{◌≡◌, ◌-◌, ◌≤◌, ◌<◌, length};
+ghost use Rattle.std.specs.Iterator.{at_most};
 ghost use Rattle.lines.specs.Words.{ReadAt};
 ghost use Rattle.records.specs.Reading.{ReadSoFar};
+ghost use Rattle.records.specs.Lines.{GivesLine};
 
 use fields::{Stop, read_field};
 use heads::line_head;
@@ -31,9 +33,11 @@ fn read_on(s: &[u8], start: usize, so_far: LineRead) -> LineRead
     l
 }
 
-// The line that starts here: its first eight fields as far as they are short numbers or `-`, and then whatever is left of it. Each
-// of the eight has its own loop over its digits. The sheet and a place in it are given, and no rest of the sheet: the line's end is
+// The line that starts here: its first eight fields as far as they are short numbers or `-`, and then whatever is left of it. The
+// eight steps are no loop: each has its own loop over digits, and one loop for all fields takes longer (docs/BENCHMARK.md, "Time follows the
+// instructions only in part"). The sheet and a place in it are given, and no rest of the sheet: the line's end is
 // a place of the sheet too.
+#[inline(always)]
 pub fn read_line(s: &[u8], start: usize) -> LineRead
     requires { start < length s.now }
     ensures read_at { ReadAt s.now start result }
@@ -60,5 +64,38 @@ pub fn read_line(s: &[u8], start: usize) -> LineRead
     match h.stop {
         Some(Stop::LineEnd) => l,
         _ => read_on(s, start, l),
+    }
+}
+
+// The lines of a sheet, each read where the one before it ended.
+#[derive(Drop)]
+pub struct Lines<'a> {
+    sheet: &'a [u8],
+    at: usize,
+}
+
+impl<'a> Lines<'a> {
+    pub fn new(sheet: &'a [u8]) -> Lines<'a>
+        ensures { (result.sheet.now ≡ sheet.now) × (result.at ≡ 0) }
+    {
+        Lines { sheet, at: 0 }
+    }
+}
+
+impl Iterator for Lines<'_> {
+    type Item = LineRead;
+
+    ghost next_gives = { GivesLine };
+
+    ghost remaining = { λ s. at_most (length s.sheet.now - s.at) };
+
+    #[inline(always)]
+    fn next(&mut self) -> Option<LineRead> {
+        if self.sheet.len() <= self.at {
+            return None;
+        }
+        let l = read_line(self.sheet, self.at);
+        self.at = l.end.saturating_add(1);
+        Some(l)
     }
 }

@@ -62,7 +62,7 @@ pub rows_none : (r : Reckoning) → rows_bytes r 0 ≡ []
 unfolding rows_bytes rows_held spell_lines
 rows_none r = refl
 
-pub rows_more : (r : Reckoning) (k : ℕ) → rows_bytes r (k + 1) ≡ rows_bytes r k ++ line 82 (row_fields r (k + 1))
+rows_more : (r : Reckoning) (k : ℕ) → rows_bytes r (k + 1) ≡ rows_bytes r k ++ line 82 (row_fields r (k + 1))
 unfolding rows_bytes rows_held
 rows_more r k =
     rw (
@@ -81,7 +81,7 @@ report_parts r =
 
 -- ---- how long
 
-pub rows_long : (r : Reckoning) (k : ℕ) → length (rows_bytes r (k + 1)) ≡ length (rows_bytes r k) + (length (tailed (row_fields r (k + 1))) + 2)
+rows_long : (r : Reckoning) (k : ℕ) → length (rows_bytes r (k + 1)) ≡ length (rows_bytes r k) + (length (tailed (row_fields r (k + 1))) + 2)
 rows_long r k =
     ap length (rows_more r k) ∙ length-append (rows_bytes r k) (line 82 (row_fields r (k + 1)))
     ∙ ap (λ (n : ℕ). length (rows_bytes r k) + n) (length_line 82 (row_fields r (k + 1)))
@@ -92,7 +92,7 @@ report_long r =
     ∙ ap (λ (n : ℕ). length (rows_bytes r r.count) + n) (length_line 84 (total_fields (last_held r)))
 
 -- the lines of the first processes are no longer than those of more
-pub rows_within : (r : Reckoning) (i n : ℕ) → i ≤ n → length (rows_bytes r i) ≤ length (rows_bytes r n)
+rows_within : (r : Reckoning) (i n : ℕ) → i ≤ n → length (rows_bytes r i) ≤ length (rows_bytes r n)
 rows_within r i zero h = let e : i ≡ 0 = omega arith in rw e (omega arith)
 rows_within r i (suc n) h =
     elim (dec_le (suc n) i) [
@@ -104,19 +104,19 @@ rows_within r i (suc n) h =
 
 -- ---- one line more
 
-module _ (r : Reckoning) (space m : List ℕ) (at k : ℕ) (some : 1 ≤ k) (one : k ≤ r.count) (all : length (bytes_held r) ≤ length space)
-    (put : Put space 0 (rows_bytes r (k - 1)) m at) where
+module _ (r : Reckoning) {space m : List ℕ} {at k : ℕ} (some : 1 ≤ k) (one : k ≤ r.count) (all : length (bytes_held r) ≤ length space)
+    (put : Put space 0 (rows_bytes r (k - 1)) m at) {fields : List _} (are : fields ≡ row_fields r k) where
   next : k - 1 + 1 ≡ k
   next = omega arith
 
   -- it has its room
-  pub row_room : at + (length (tailed (row_fields r k)) + 2) ≤ length space
-  row_room = omega (arith, put.place, rw next at (rows_long r (k - 1)), rows_within r k r.count one, report_long r)
+  pub row_room : at + (length (tailed fields) + 2) ≤ length space
+  row_room = rw are (omega (arith, put.place, rw next at (rows_long r (k - 1)), rows_within r k r.count one, report_long r))
 
   -- it stands behind the lines before it
-  pub row_put : (n : List ℕ) (j : ℕ) → Put m at (line 82 (row_fields r k)) n j → Put space 0 (rows_bytes r k) n j
-  row_put n j line_put =
+  pub row_put : {n : List ℕ} {i j : ℕ} → Put m at (line 82 fields) n j → i ≡ k → Put space 0 (rows_bytes r i) n j
+  row_put line_put same =
       let before : k - 1 ≤ r.count = omega arith in
       let room : 0 + length (rows_bytes r (k - 1)) ≤ length space = omega (arith, rows_within r (k - 1) r.count before, report_long r) in
       let more = rw next at (rows_more r (k - 1)) in
-      rw more (then room put line_put)
+      rw (same, more) (then room put (rw are at line_put))

@@ -25,13 +25,13 @@ unfoldable pub row_held : Reckoning → (k : ℕ) → attribution.Row
 row_held r k = record {
   process = k;
   output = figures r.outputs.0 k;
-  direct = figures r.figures.direct.0 k;
-  indirect = figures r.figures.indirect.0 k;
+  direct = figures r.figures.attributed.direct.0 k;
+  indirect = figures r.figures.attributed.indirect.0 k;
   raised = figures r.figures.raised.0 k;
-  direct_pool = figures r.figures.direct_pools.0 k;
-  indirect_pool = figures r.figures.indirect_pools.0 k;
-  direct_left = figures r.figures.direct_lefts.0 k;
-  indirect_left = figures r.figures.indirect_lefts.0 k;
+  direct_pool = figures r.figures.pools.direct.0 k;
+  indirect_pool = figures r.figures.pools.indirect.0 k;
+  direct_left = figures r.figures.lefts.direct.0 k;
+  indirect_left = figures r.figures.lefts.indirect.0 k;
 }
 
 -- the totals as the code passes them on

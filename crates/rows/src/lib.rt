@@ -65,23 +65,25 @@ fn row_fields(row: Row) -> [Figure; FIELDS]
     ]
 }
 
-// Writes the lines of all processes.
-fn put_rows(space: &mut [u8], r: Reckoning) -> usize
-    requires { (CanBeWritten r) × (length (bytes_held r) ≤ length space.old) }
-    ensures { Put space.old 0 (rows_bytes r r.count) space.new result }
+// Writes the lines of all processes. `CanBeWritten` is a clause here, in `put_report` and in `answers::put_within`, and no invariant of a
+// reckoning: the reckoner's own contract gives it, and an invariant would say it a second time.
+#[tactic(auto, using(crate::proofs::Rows::rows_none, decimal::proofs::Writing::put_none))]
+fn put_rows(space: &mut [u8], r: &Reckoning) -> usize
+    requires { (CanBeWritten r.now) × (length (bytes_held r.now) ≤ length space.old) }
+    ensures { Put space.old 0 (rows_bytes r.now r.now.count) space.new result }
 {
     let mut at: usize = 0;
     for k in 1..=r.count {
         let row = Row {
             process: k,
             output: Kilos(r.outputs.0[k]),
-            direct: Grams(r.figures.direct.0[k]),
-            indirect: Grams(r.figures.indirect.0[k]),
+            direct: Grams(r.figures.attributed.direct.0[k]),
+            indirect: Grams(r.figures.attributed.indirect.0[k]),
             raised: Grams(r.figures.raised.0[k]),
-            direct_pool: Grams(r.figures.direct_pools.0[k]),
-            indirect_pool: Grams(r.figures.indirect_pools.0[k]),
-            direct_left: Grams(r.figures.direct_lefts.0[k]),
-            indirect_left: Grams(r.figures.indirect_lefts.0[k]),
+            direct_pool: Grams(r.figures.pools.direct.0[k]),
+            indirect_pool: Grams(r.figures.pools.indirect.0[k]),
+            direct_left: Grams(r.figures.lefts.direct.0[k]),
+            indirect_left: Grams(r.figures.lefts.indirect.0[k]),
         };
         at = put_line(space, at, b'R', &row_fields(row));
     }
@@ -89,9 +91,10 @@ fn put_rows(space: &mut [u8], r: Reckoning) -> usize
 }
 
 // Writes the report at the start of a space that has room for it.
-pub fn put_report(space: &mut [u8], r: Reckoning) -> usize
-    requires { (CanBeWritten r) × (length (bytes_held r) ≤ length space.old) }
-    ensures { Put space.old 0 (bytes_held r) space.new result }
+#[tactic(auto, using(crate::proofs::Rows::report_long))]
+pub fn put_report(space: &mut [u8], r: &Reckoning) -> usize
+    requires { (CanBeWritten r.now) × (length (bytes_held r.now) ≤ length space.old) }
+    ensures { Put space.old 0 (bytes_held r.now) space.new result }
 {
     let at = put_rows(space, r);
     let last = LastLine {

@@ -5,6 +5,7 @@ use mathlib.Core.List.{List}
 use Prim.Native.Nat.{ℕ, zero, suc, ◌+◌, ◌^◌, ◌≤◌, ◌<◌}
 use native.Mathlib.Decide.{le_ind, dec_le}
 use native.Mathlib.Nat.{le_trans, lt_of_not-le}
+use Rattle.std.proofs.lemmas.Grind.{common_steps}
 use native.Mathlib.Omega.{arith}
 use lib.Dec.{eqb}
 use lib.ListN.{length, get_or, set, replicate, length-set, length-replicate}
@@ -20,11 +21,6 @@ use Rattle.goods.proofs.Portions.{portion_is}
 use Rattle.goods.proofs.Pools.{pool_is, pool_le}
 use Rattle.passing.proofs.Passing.{no_portion}
 use Rattle.settling.proofs.Takers.{none_passed}
-
-zeros : (n k : ℕ) → ◌≡◌ {A = ℕ} (get_or (replicate n 0) k 0) 0
-zeros zero k = refl
-zeros (suc n) zero = refl
-zeros (suc n) (suc k) = zeros n k
 
 module _ (n : ℕ) (output : ℕ → ℕ) (kilos : ℕ → ℕ → ℕ) (own : ℕ → ℕ) where
   abbrev pool : ℕ → ℕ
@@ -69,71 +65,79 @@ module _ (n : ℕ) (output : ℕ → ℕ) (kilos : ℕ → ℕ → ℕ) (own : �
     pool_small : (k : ℕ) → suc k ≤ n → pool (suc k) < whole_grams
     pool_small k h = omega (arith, s.total, pool_le n output kilos own s.ahead s.within k h, sum_mono (suc k) n own h)
 
+    module _ {i : ℕ} {pools : List ℕ} (c : Column n (held i) pools) where
+      -- the next process holds its pool
+      pool_next : i < n → get_or pools (suc i) 0 ≡ pool (suc i)
+      pool_next h = c.at (suc i) (omega arith) h ∙ held_turn i
+
+      can_next : i < n → CanPassOn n (suc i) (output (suc i)) (kilos (suc i)) pools
+      can_next h =
+          record {
+            some = s.some (suc i) (omega arith) h;
+            small = s.small (suc i) (omega arith) h;
+            ahead = λ j l u. s.ahead (suc i) j l u h;
+            within = s.within (suc i) (omega arith) h;
+            room = room;
+          }
+        where
+          room : (k : ℕ) → 1 ≤ k → k ≤ n → get_or pools k 0 + portion_of (get_or pools (suc i) 0) (output (suc i)) (takers (kilos (suc i)) n) k < 2 ^ 64
+          room zero l u = absurd (omega arith)
+          room (suc k) l u = rw (pool_next h) (omega (arith, c.at (suc k) l u, held_next i (suc k), held_le k (suc i) h, pool_small k u))
+
+      can_pass_on : (j : ℕ) → j ≡ suc i → j ≤ n → CanPassOn n j (output j) (kilos j) pools
+      can_pass_on j e h = rw e (can_next (rw e at h))
+
   -- ---- in arrays
 
   pub record Settling (i : ℕ) (pools lefts : List ℕ) : Type 0 where
     pub pool : Column n (held i) pools
     pub rest : Column i (left_of n output kilos own) lefts
+    -- the next process can pass its good on
+    pub next_can : (j : ℕ) → j ≡ suc i → j ≤ n → CanPassOn n j (output j) (kilos j) pools
 
-  pub settling_none : (pools : List ℕ) → length pools ≡ SIZE → NoneOutside n pools → ((k : ℕ) → get_or pools k 0 ≡ own k) → Settling 0 pools (replicate SIZE 0)
+  pub settling_none : (pools : List ℕ) → Settleable n output kilos own → length pools ≡ SIZE → NoneOutside n pools
+      → ((k : ℕ) → get_or pools k 0 ≡ own k) → Settling 0 pools (replicate SIZE 0)
   unfolding held sum_to
-  settling_none pools e none same = record {
-    pool = record { size = e; at = λ k l h. omega (arith, same k); outside = none };
-    rest = record { size = length-replicate {A = ℕ} SIZE 0; at = λ k l h. absurd (omega arith); outside = λ k o. zeros SIZE k };
-  }
+  settling_none pools s e none same =
+      record {
+        pool = held_none;
+        rest = record { size = length-replicate {A = ℕ} SIZE 0; at = λ k l h. absurd (omega arith); outside = λ k o. grind (arith, common_steps) };
+        next_can = can_pass_on s held_none;
+      }
+    where
+      held_none : Column n (held 0) pools
+      held_none = record { size = e; at = λ k l h. omega (arith, same k); outside = none }
 
 module _ {n : ℕ} {output : ℕ → ℕ} {kilos : ℕ → ℕ → ℕ} {own : ℕ → ℕ} {i : ℕ} {pools lefts : List ℕ}
     (s : Settleable n output kilos own) (t : Settling n output kilos own i pools lefts) where
-  -- the next process holds its pool
-  pool_next : i < n → get_or pools (suc i) 0 ≡ pool_of n output kilos own (suc i)
-  pool_next h = t.pool.at (suc i) (omega arith) h ∙ held_turn n output kilos own i
-
-  can_pass_on : i < n → CanPassOn n (suc i) (output (suc i)) (kilos (suc i)) pools
-  can_pass_on h =
-      record {
-        some = s.some (suc i) (omega arith) h;
-        small = s.small (suc i) (omega arith) h;
-        ahead = λ j l u. s.ahead (suc i) j l u h;
-        within = s.within (suc i) (omega arith) h;
-        room = room;
-      }
-    where
-      room : (k : ℕ) → 1 ≤ k → k ≤ n → get_or pools k 0 + portion_of (get_or pools (suc i) 0) (output (suc i)) (takers (kilos (suc i)) n) k < 2 ^ 64
-      room zero l u = absurd (omega arith)
-      room (suc k) l u =
-          rw (pool_next h)
-          (omega (
-            arith,
-            t.pool.at (suc k) l u,
-            held_next n output kilos own i (suc k),
-            held_le n output kilos own s k (suc i) h,
-            pool_small n output kilos own s k u,
-          ))
-
-  pub settling_can : {j : ℕ} → j ≡ suc i → i < n → CanPassOn n j (output j) (kilos j) pools
-  settling_can e h = rw e (can_pass_on h)
-
   passed : {after : List ℕ} {rest : ℕ} → i < n → suc i < SIZE
       → PassedOn n (suc i) (output (suc i)) (kilos (suc i)) pools after rest → Settling n output kilos own (suc i) after (set lefts (suc i) rest)
   unfolding left_of
   passed {after} {rest} h u p =
       record {
-        pool = record {
-          size = p.size ∙ t.pool.size;
-          at = λ k a b. p.taken k a b ∙ rw (pool_next h, held_next n output kilos own i k, t.pool.at k a b);
-          outside = λ k o. p.outside k o ∙ t.pool.outside k o;
-        };
+        pool = pool_after;
         rest = record {
           size = length-set lefts (suc i) rest ∙ t.rest.size;
           at = λ k a b. go k a b (eqb k (suc i)) refl;
           outside = λ k o.
               get_or-set_other lefts (suc i) k rest 0 (λ (e : k ≡ suc i). o (omega arith) (omega arith)) ∙ t.rest.outside k (λ a b. o a (omega arith));
         };
+        next_can = can_pass_on n output kilos own s pool_after;
       }
     where
+      here : get_or pools (suc i) 0 ≡ pool_of n output kilos own (suc i)
+      here = pool_next n output kilos own s t.pool h
+
+      pool_after : Column n (held n output kilos own (suc i)) after
+      pool_after = record {
+        size = p.size ∙ t.pool.size;
+        at = λ k a b. p.taken k a b ∙ rw (here, held_next n output kilos own i k, t.pool.at k a b);
+        outside = λ k o. p.outside k o ∙ t.pool.outside k o;
+      }
+
       go : (k : ℕ) → 1 ≤ k → k ≤ suc i → (b : Bool) → eqb k (suc i) ≡ b → get_or (set lefts (suc i) rest) k 0 ≡ left_of n output kilos own k
       go k a b true e =
-          rw (eqb-true k (suc i) e) (get_or-set_same lefts (suc i) rest 0 (omega (arith, t.rest.size)) ∙ p.left_is ∙ rw (pool_next h))
+          rw (eqb-true k (suc i) e) (get_or-set_same lefts (suc i) rest 0 (omega (arith, t.rest.size)) ∙ p.left_is ∙ rw here)
       go k a b false e = let ne = eqb-false k (suc i) e in get_or-set_other lefts (suc i) k rest 0 ne ∙ t.rest.at k a (omega arith)
 
   pub settling_next : {j : ℕ} {after : List ℕ} {rest : ℕ} → j ≡ suc i → i < n → j < SIZE
@@ -142,7 +146,7 @@ module _ {n : ℕ} {output : ℕ → ℕ} {kilos : ℕ → ℕ → ℕ} {own : �
 
   -- a process with no takers
   pub settling_kept : {j : ℕ} → j ≡ suc i → i < n → j < SIZE → any_taker (kilos j) j n ≡ false → Settling n output kilos own j pools (set lefts j (get_or pools j 0))
-  settling_kept e h u none = settling_next e h u (none_passed (settling_can e h) none)
+  settling_kept e h u none = settling_next e h u (none_passed (t.next_can _ e (omega arith)) none)
 
 -- all processes have had their turn
 module _ {outputs kilos before pools lefts : List ℕ} {n i : ℕ} (s : Settleable n (figures outputs) (pairs kilos) (figures before))

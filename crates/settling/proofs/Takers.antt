@@ -8,29 +8,13 @@ use native.Mathlib.Nat.{lt_of_not-le, le_refl, add-zero}
 use native.Mathlib.Numerals.{add-one}
 use native.Mathlib.Omega.{arith}
 use borrow.Author.Tests.{lt-ltb, le-ltb, ltb-false, eqb-true, eqb-false}
+use Rattle.std.proofs.Math.Bool.{or-false, or_assoc}
+use Rattle.std.proofs.lemmas.Bool.{or_parts}
 use lib.Dec.{eqb, ltb}
 use lib.ListN.{get_or}
 use Rattle.std.specs.List.{list_any, range_with_len}
 use Rattle.goods.specs.Settling.{CanPassOn, PassedOn, any_taker}
 use Rattle.passing.proofs.Passing.{passing_none, passing_all}
-
-or_false : (a : Bool) → (a || false) ≡ a
-or_false false = refl
-or_false true = refl
-
-or_assoc : (a b c : Bool) → ((a || b) || c) ≡ a || (b || c)
-or_assoc false b c = refl
-or_assoc true b c = refl
-
--- neither of two holds
-none_first : (a b : Bool) → (a || b) ≡ false → a ≡ false
-none_first false b e = refl
-none_first true b e = e
-
-none_second : (a b : Bool) → (a || b) ≡ false → b ≡ false
-none_second false b e = e
-none_second true false e = refl
-none_second true true e = e
 
 module _ (m : ℕ → ℕ) (from : ℕ) where
   -- up to the process itself there is none
@@ -46,7 +30,7 @@ module _ (m : ℕ → ℕ) (from : ℕ) where
 
   -- one process after the other, behind the first k
   taken_over : (n k : ℕ) → from ≤ k → any_taker m from (k + n) ≡ any_taker m from k || list_any (λ to. ltb 0 (m to)) (range_with_len (k + 1) n)
-  taken_over zero k h = rw add-zero (sym (or_false (any_taker m from k)))
+  taken_over zero k h = rw add-zero (sym (or-false (any_taker m from k)))
   taken_over (suc n) k h =
       let e : k + suc n ≡ suc k + n = omega arith in
       rw (e, add-one) (taken_over n (suc k) (omega arith) ∙ with_next k h (list_any (λ to. ltb 0 (m to)) (range_with_len (suc k + 1) n)))
@@ -60,11 +44,11 @@ module _ (m : ℕ → ℕ) (from : ℕ) where
   none_takes : (n : ℕ) → any_taker m from n ≡ false → (j : ℕ) → from < j → j ≤ n → m j ≡ 0
   unfolding any_taker
   none_takes zero e j u l = absurd (omega arith)
-  none_takes (suc n) e j u l = go (λ h. none_takes n (none_first (any_taker m from n) _ e) j u h) (eqb j (suc n)) refl
+  none_takes (suc n) e j u l = go (λ h. none_takes n (or_parts (any_taker m from n) _ e).0 j u h) (eqb j (suc n)) refl
     where
       last : from < suc n → m (suc n) ≡ 0
       last h =
-          let both = none_second (any_taker m from n) _ e in
+          let both = (or_parts (any_taker m from n) _ e).1 in
           let some = ltb-false 0 (m (suc n)) (rw (lt-ltb from (suc n) h) at both) in
           omega arith
 
@@ -77,7 +61,7 @@ pub none_passed : {n from output : ℕ} {m : ℕ → ℕ} {pools : List ℕ} →
     → PassedOn n from output m pools pools (get_or pools from 0)
 none_passed {n} {from} {output} {m} {pools} c e =
     let whole : get_or pools from 0 - 0 ≡ get_or pools from 0 = omega arith in
-    rw whole at (passing_all (passing_none (get_or pools from 0) output m pools n all) n from refl refl)
+    rw whole at (passing_all (passing_none n (get_or pools from 0) output m pools n c.within all) from refl refl)
   where
     all : (j : ℕ) → 1 ≤ j → j ≤ n → m j ≡ 0
     all j l u =

@@ -21,8 +21,8 @@ struct Division {
     remainder: u64,
 }
 
-// One more bit of P: quotient and remainder double, and a bit of 1 adds the part. The remainder then holds no whole, one or two, and these go over
-// to the quotient, by comparing and with no branch.
+// One more bit of P: quotient and remainder double, and a bit of 1 adds the part. The remainder then holds no whole, one or two, which
+// are taken off it and counted in the quotient, by comparing and with no branch.
 fn with_bit(d: Division, bit: u64, share: Share) -> Division
     requires { BitRange bit d.quotient d.remainder share.part.0 share.whole.0 }
     ensures remainder_value { result.quotient * share.whole.0 + result.remainder ≡ (d.quotient * share.whole.0 + d.remainder) * 2 + bit * share.part.0 }
@@ -37,14 +37,16 @@ fn with_bit(d: Division, bit: u64, share: Share) -> Division
     }
 }
 
-// The quotients of two numbers times one part by one whole.
+// The quotients of two numbers times one part by one whole: named fields say more than a pair. The walk is over plain numbers, and
+// `portions` over Grams.
 #[derive(Clone, Copy)]
 pub struct TwoQuotients {
     pub first: u64,
     pub second: u64,
 }
 
-// ⌊P × C/A⌋ of two P, "P being walked from its highest one bit down". The two walks go side by side, so that no step of one waits for the other.
+// ⌊P × C/A⌋ of two P, "P being walked from its highest one bit down". The two
+// walks are made in one loop, so that no step of one waits for the other.
 pub fn quotients(first: u64, second: u64, share: Share) -> TwoQuotients
     ensures { (result.first ≡ first * share.part.0 / share.whole.0) × (result.second ≡ second * share.part.0 / share.whole.0) }
 {
@@ -60,8 +62,8 @@ pub fn quotients(first: u64, second: u64, share: Share) -> TwoQuotients
     }
 }
 
-// Direct and indirect grams of one process: its pools, a portion of them, or what is left.
-#[derive(Clone, Copy)]
+// Direct and indirect grams of one process: its pools, a portion of them, or what is left. Named fields say more than a pair.
+#[derive(Clone, Copy, Default)]
 pub struct BothGrams {
     pub direct: Grams,
     pub indirect: Grams,

@@ -5,7 +5,7 @@ use mathlib.Core.Bool.{Bool, true, false, cond}
 use mathlib.Core.List.{List, [], ◌∷◌, ◌++◌}
 use Prim.Native.Nat.{ℕ}
 use native.Mathlib.Omega.{arith}
-use Rattle.sheet.specs.Verdict.{Check, Verdict, accepted, refused, first_of, number_of, line_of, All, Passes, First}
+use Rattle.sheet.specs.Verdict.{Check, Verdict, accepted, refused, first_of, All, Passes, First}
 
 pub all_append : {A : Type 0} (P : A → Type 0) (xs ys : List A) → All P (xs ++ ys) → All P xs × All P ys
 all_append P [] ys h = (tt, h)
@@ -96,8 +96,3 @@ first_here (c ∷ a) b n k h = go c.applies (λ p. first_here a b n k p) h
         → cond t (refused c.number c.line) (first_of a) ≡ refused n k → cond t (refused c.number c.line) (first_of (a ++ b)) ≡ refused n k
     go true ih h = h
     go false ih h = ih h
-
--- a verdict of a number is refused by it
-pub numbered : (v : Verdict) → (number_of v ≡ 0 → ⊥) → v ≡ refused (number_of v) (line_of v)
-numbered accepted h = absurd (h refl)
-numbered (refused n k) h = refl

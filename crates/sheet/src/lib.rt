@@ -4,7 +4,7 @@
 ghost use Rattle.std.specs.Prelude.{◌≡◌};
 ghost use Rattle.sheet.specs.Kinds.{kind_of};
 
-// The seven kinds of lines, and a line whose first field is none of their letters.
+// The seven kinds of lines, and a line whose first field is none of their letters: in the definitions too that is a kind, so no Option holds one.
 #[derive(Clone, Copy, Debug, PartialEq, Eq)]
 pub enum Kind {
     Process,

@@ -12,6 +12,7 @@ use sheet_words::put_records;
 
 // The words of the sheet's records at the start of the lent list, nine each, and how many records they are; where the sheet is refused the
 // list stays as it was.
+#[tactic(auto, using(crate::proofs::Outcomes::read_as, record_exchange::proofs::RoundTrip::words_long, attribution::proofs::RowFifteen::fifteen_never_given), unfolding(decimal::specs::Writing::written))]
 pub fn read(sheet: &[u8], list: &mut [u64]) -> Result<usize, Refused>
     ensures { gives (answer_of result) list.new ≡ records_read sheet.now list.old }
 {

@@ -11,7 +11,7 @@ ghost use Rattle.sheet_words.specs.LineWords.{as_lent, line_words};
 
 use lent::{DASH_WORD, RECORD};
 use lines::{DASH, LineRead};
-use records::read_line;
+use records::Lines;
 
 // A field's word as a lent word.
 fn as_lent(word: u64) -> u64
@@ -44,12 +44,8 @@ pub fn put_records(list: &mut [u64], sheet: &[u8]) -> usize
     ensures { Put list.old 0 (words_of (records_of sheet.now)) list.new result }
 {
     let mut place = 0;
-    let mut at = 0;
-    // no range or iterator gives the places: each line that is read says where the next one starts
-    while at < sheet.len() {
-        let l = read_line(sheet, at);
+    for l in Lines::new(sheet) {
         place = put_words(list, place, l);
-        at = l.end + 1;
     }
     place
 }

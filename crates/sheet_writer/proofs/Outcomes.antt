@@ -1,34 +1,40 @@
--- What the writer gives, from what the code finds: refused, too short, or put. Assumes nothing.
-use mathlib.Core.Path.{◌≡◌, sym}
-use mathlib.Core.List.{List}
-use Prim.Native.Nat.{ℕ, ◌≤◌, ◌<◌}
-use native.Mathlib.Omega.{arith}
-use lib.ListN.{length}
-use Rattle.decimal.specs.Writing.{Put}
-use Rattle.decimal.proofs.Writing.{start_bytes}
-use Rattle.std.specs.Prelude.{Err}
+-- What the writer gives, by the verdict of rows 1 to 14. Assumes nothing.
+use mathlib.Core.Path.{◌≡◌, refl}
+use mathlib.Core.Bool.{cond}
+use mathlib.Core.List.{List, ◌++◌}
+use Prim.Native.Nat.{ℕ}
+use native.Mathlib.Decide.{dec_le}
+use native.Mathlib.Nat.{lt_of_not-le}
+use borrow.Author.Tests.{lt-ltb, le-ltb}
+use lib.Dec.{ltb}
+use lib.ListN.{length, drop}
 use Rattle.quantity.specs.Limits.{limits}
-use Rattle.sheet.specs.Verdict.{first_of, sheet_checks}
-use Rattle.checks.specs.Numbers.{refused_by}
-use Rattle.checks.specs.declared.refusals.Refused.{Refused}
-use Rattle.answers.specs.Given.{answer_of, gives}
-use Rattle.judged.specs.Judged.{Passed}
-use Rattle.judged.specs.declared.Judged.{Judged}
+use Rattle.sheet.specs.Verdict.{Verdict, accepted, refused, first_of, sheet_checks}
+use Rattle.report.specs.Outcome.{Outcome}
 use Rattle.lent.specs.Lent.{sheet_lent}
 use Rattle.record_exchange.specs.Exchange.{sheet_written}
 use Rattle.record_exchange.proofs.RoundTrip.{written_accepted, written_short, written_refused}
 use Rattle.record_exchange.proofs.Judged.{judged_as}
 
 module _ (words space : List ℕ) where
-  pub refused_given : (e : Refused) → first_of (sheet_checks limits (sheet_lent words)) ≡ refused_by e
-      → gives (answer_of (Err e)) space ≡ sheet_written words space
-  refused_given e v = sym (written_refused words space _ e.line (judged_as (sheet_lent words) _ v))
+  -- 16 comes last
+  abbrev given : Verdict → Outcome
+  given accepted =
+      let sheet : List ℕ = sheet_lent words in
+      cond (ltb (length space) (length sheet)) (record { number = 16; line = 0; length = 0; space = space })
+      (record { number = 0; line = 0; length = length sheet; space = sheet ++ drop (length sheet) space })
+  given (refused n k) = record { number = n; line = k; length = 0; space = space }
 
-  module _ (j : Judged) (of : Passed (sheet_lent words) (first_of (sheet_checks limits (sheet_lent words))) j) where
-    pub short_given : length space < j.length → record { number = 16; line = 0; length = 0; space = space } ≡ sheet_written words space
-    short_given h = sym (written_short words space (judged_as (sheet_lent words) _ of.passed) (omega (arith, of.measured)))
+  by_verdict : (v : Verdict) → first_of (sheet_checks limits (sheet_lent words)) ≡ v → sheet_written words space ≡ given v
+  by_verdict accepted e =
+      let a = judged_as (sheet_lent words) accepted e in
+      elim (dec_le (length (sheet_lent words)) (length space)) [
+        | yes fits ↦ rw (le-ltb (length space) (length (sheet_lent words)) fits) (written_accepted words space a fits)
+        | no long ↦
+            let short = lt_of_not-le long in
+            rw (lt-ltb (length space) (length (sheet_lent words)) short) (written_short words space a short)
+      ]
+  by_verdict (refused n k) e = written_refused words space n k (judged_as (sheet_lent words) (refused n k) e)
 
-    pub put_given : {after : List ℕ} → j.length ≤ length space → Put space 0 (sheet_lent words) after j.length
-        → record { number = 0; line = 0; length = j.length; space = after } ≡ sheet_written words space
-    put_given h p =
-        rw (start_bytes p, of.measured) (sym (written_accepted words space (judged_as (sheet_lent words) _ of.passed) (omega (arith, of.measured))))
+  pub written_as : sheet_written words space ≡ given (first_of (sheet_checks limits (sheet_lent words)))
+  written_as = by_verdict _ refl

@@ -10,6 +10,7 @@ use judged::judge_records;
 use record_lines::put_sheet;
 
 // The sheet at the start of the lent space; where its records are refused the space stays as it was. The k-th record is line k.
+#[tactic(auto, using(crate::proofs::Outcomes::written_as), unfolding(decimal::specs::Writing::written))]
 pub fn write(records: &[u64], space: &mut [u8]) -> Result<usize, Refused>
     ensures { gives (answer_of result) space.new ≡ sheet_written records.now space.old }
 {

@@ -8,7 +8,8 @@ ghost use Rattle.short_fields.specs.Short.{is_leading, DigitsAt, ended_word, sho
 use fields::Stop;
 use lines::DASH;
 
-// Digits that a field starts with: their value, and the place after them.
+// Digits that a field starts with: their value, and the place after them. Here and in `fields` and `heads` too the sheet and a place in it
+// are given, for the reason in `records`.
 #[derive(Clone, Copy)]
 struct Digits {
     value: u64,

@@ -4,10 +4,9 @@ use mathlib.Core.Bool.{false}
 use mathlib.Core.List.{List}
 use Prim.Native.Nat.{ℕ, ◌≤◌}
 use native.Mathlib.Omega.{arith}
-use lib.ListN.{length, get_or}
-use Rattle.lines.specs.Records.{Field, number}
-use Rattle.sheet.specs.Kinds.{Rule, ◌to◌, method_rules}
-use Rattle.sheet.proofs.Table.{by_method_lem}
+use lib.ListN.{get_or}
+use Rattle.lines.specs.Records.{number}
+use Rattle.sheet.specs.Kinds.{◌to◌, method_rules}
 use Rattle.checks.specs.Steps.{or_else, word_number, words_number}
 use Rattle.quantity.specs.Methods.{method_number}
 use Rattle.quantity.specs.declared.method.Method.{Method}
@@ -15,9 +14,6 @@ use Rattle.quantity.specs.declared.method.Method.TheVariants.{Combustion, Proces
 use Rattle.checks.specs.Judged.{method_number as method_word_number}
 use Rattle.checks.proofs.Chain.{else_first}
 use Rattle.checks.proofs.Fitting.{word_fits}
-
-pub six : (f : Field) → length (method_rules f) ≡ 6
-six f = by_method_lem (λ (rs : List Rule). length rs ≡ 6) (omega arith) f
 
 -- a method: the rules of the fields behind it
 pub of_method : (r : ℕ) (words : List ℕ) (m : Method) → method_number m ≡ get_or words 1 0

@@ -1,12 +1,12 @@
 -- Standard values held divided by a unit: no figure loses a digit, and each times the unit is the printed one. Assumes nothing.
 use mathlib.Core.Path.{◌≡◌, refl, sym, ap, ◌∙◌}
 use mathlib.Core.List.{List, map}
-use Prim.Native.Nat.{ℕ, zero, suc, ◌*◌, ◌/◌, ◌-◌, ◌^◌, ◌≤◌, ◌<◌}
-use native.Mathlib.Nat.{zero-mul, lt_of_le_of_lt, mul-le-mul_right}
+use Prim.Native.Nat.{ℕ, zero, suc, ◌*◌, ◌/◌, ◌-◌, ◌≤◌}
+use native.Mathlib.Nat.{zero-mul}
 use native.Mathlib.Omega.{arith}
 use lib.ListN.{get_or, get_or-map}
 use Rattle.quantity.specs.Standard.{Fuel, fuels, carbonates, fuel_of, carbonate_of}
-use Rattle.quantity.proofs.Tables.{Lists, net_calorific_values, emission_factors, carbonate_factors, largest, at_most_largest, at_found}
+use Rattle.quantity.proofs.Tables.{Lists, net_calorific_values, emission_factors, carbonate_factors, largest, at_found}
 
 -- what the code holds of a printed table
 abbrev pub divided : (unit : ℕ) (printed : List ℕ) → List ℕ
@@ -79,10 +79,3 @@ emission_factors_found = found 100 400000 emission_factors emission_factors_whol
 pub carbonates_found : Found 1000 carbonates carbonate_of 4000000
 unfolding carbonates
 carbonates_found = found 1000 4000000 carbonate_factors carbonates_whole (omega arith)
-
--- ---- a held figure, and its product with the unit, fit 64 bits where the largest of the table does
-pub held_fits : (l : List ℕ) (k : ℕ) → largest l < 2 ^ 64 → get_or l k 0 < 2 ^ 64
-held_fits l k h = lt_of_le_of_lt (at_most_largest l k) h
-
-pub product_fits : (l : List ℕ) (k unit : ℕ) → largest l * unit < 2 ^ 64 → get_or l k 0 * unit < 2 ^ 64
-product_fits l k unit h = lt_of_le_of_lt (mul-le-mul_right unit (at_most_largest l k)) h

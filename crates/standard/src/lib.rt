@@ -1,5 +1,5 @@
-// Document 01, "Source streams": the standard value of each code, 0 for a code that has none. The arrays hold the printed
-// figures divided by 10, 100 and 1,000, each in 16 bits (document 02, ticket 3). An index is reckoned in a byte for the
+// Document 01, "Source streams": the standard value of each code. A code that has none gives 0, the value that the definitions have for it. The
+// arrays hold the printed figures divided by 10, 100 and 1,000, each in 16 bits (document 02, ticket 3). An index is reckoned in a byte for the
 // sake of the compiled code; docs/DECISIONS.md says why.
 #![tactic(auto)]
 

@@ -2,46 +2,36 @@
 use mathlib.Core.Path.{◌≡◌, refl, sym, ap, ◌∙◌}
 use mathlib.Core.Bool.{Bool, true, false, cond}
 use mathlib.Core.List.{List}
-use Prim.Native.Nat.{ℕ, ◌+◌, ◌≤◌, ◌<◌}
+use Prim.Native.Nat.{ℕ, ◌+◌, ◌≤◌}
 use native.Mathlib.Omega.{arith}
-use lib.ListN.{length, get_or}
+use lib.ListN.{get_or}
 use Rattle.decimal.proofs.Bools.{never}
-use Rattle.lines.specs.Lines.{LF}
 use Rattle.fields.specs.Scan.{EndsInLF}
 use Rattle.short_fields.specs.Short.{short_at}
-use Rattle.fields.proofs.Scanning.{not_last}
 use Rattle.short_fields.proofs.Short.{byte_of, Before, short_before}
 use Rattle.std.specs.Prelude.{Option, Some, None}
 use Rattle.fields.specs.declared.Stop.{Stop}
 use Rattle.fields.specs.declared.Stop.TheVariants.{Comma, LineEnd}
 use Rattle.short_fields.specs.declared.ShortField.{ShortField}
 use Rattle.heads.specs.Left.{comma_at}
-use Rattle.heads.proofs.Left.{comma_in, comma_at_lem, other_at}
+use Rattle.heads.proofs.Left.{comma_at_lem}
 use Rattle.steps.specs.Steps.{tried, Ahead, stayed, step_by, step_of}
 use Rattle.steps.specs.declared.Step.{Step}
 
--- a byte of a field stands behind a comma
-pub ahead_inside : (s : List ℕ) (at : ℕ) → EndsInLF s × (comma_at s at ≡ true) → at + 1 < length s
-ahead_inside s at a =
-    let i = comma_in s at a.1 in
-    not_last s at a.0 i (λ (e : get_or s at 0 ≡ LF). never (sym (other_at s at (λ c. omega arith)) ∙ a.1))
-
 pub tried_comma : (stop : Option Stop) → stop ≡ Some Comma → tried stop ≡ true
 tried_comma stop e = ap tried e
-
-pub tried_none : (stop : Option Stop) → (stop ≡ Some Comma → ⊥) → tried stop ≡ false
-tried_none (Some Comma) n = absurd (n refl)
-tried_none (Some LineEnd) n = refl
-tried_none None n = refl
 
 module _ (s : List ℕ) (f : Step) where
   pub step_tried : tried f.stop ≡ true → (r : Option ShortField) → r ≡ short_at s (f.end + 1) → step_by f r ≡ step_of s f
   unfolding step_of
   step_tried m r e = ap (step_by f) e ∙ ap (λ (p : Bool). cond p (step_by f (short_at s (f.end + 1))) (stayed f)) (sym m)
 
-  pub step_none : tried f.stop ≡ false → stayed f ≡ step_of s f
+  pub step_none : (stop : Option Stop) → f.stop ≡ stop → tried stop ≡ false → record { word = 0; count = f.count; end = f.end; stop = stop } ≡ step_of s f
   unfolding step_of
-  step_none m = ap (λ (p : Bool). cond p (step_by f (short_at s (f.end + 1))) (stayed f)) (sym m)
+  step_none stop e m =
+      let no : tried f.stop ≡ false = ap tried e ∙ m in
+      ap (λ (p : Option Stop). record { word = 0; count = f.count; end = f.end; stop = p }) (sym e)
+      ∙ ap (λ (p : Bool). cond p (step_by f (short_at s (f.end + 1))) (stayed f)) (sym no)
 
   module _ (a : Ahead s f) (h : f.count ≤ f.end) where
     bounds_by : tried f.stop ≡ true → (r : Option ShortField) → Before s (f.end + 1) r → Ahead s (step_by f r) × ((step_by f r).count ≤ (step_by f r).end)

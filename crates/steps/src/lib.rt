@@ -9,7 +9,8 @@ use heads::Head;
 use short_fields::short_field;
 
 // A step from field to field: the word that it read, 0 where it read none; how many fields are read by now, the place behind the
-// last of them and what stands there: none where the next field is left to the loop over any fields.
+// last of them and what stands there: none where the next field is left to the loop over any fields. The word is no Option, since the
+// definition `words` too has 0 where no field was read.
 #[derive(Clone, Copy)]
 pub struct Step {
     pub word: u64,
@@ -39,15 +40,25 @@ pub fn next_field(s: &[u8], f: Step) -> Step
     ensures value { result ≡ step_of s.now f }
     ensures bounded { Ahead s.now result × (result.count ≤ result.end) }
 {
-    let Some(Stop::Comma) = f.stop else {
-        return Step { word: 0, ..f };
-    };
-    match short_field(s, f.end + 1) {
-        Some(field) => Step {
-            word: field.word,
-            count: f.count + 1,
-            end: field.end,
-            stop: Some(field.stop),
+    match f.stop {
+        Some(Stop::Comma) => match short_field(s, f.end + 1) {
+            Some(field) => Step {
+                word: field.word,
+                count: f.count + 1,
+                end: field.end,
+                stop: Some(field.stop),
+            },
+            None => Step {
+                word: 0,
+                stop: None,
+                ..f
+            },
+        },
+        // Both stops are written out: then the compiler leaves out the steps behind a line's last field.
+        Some(Stop::LineEnd) => Step {
+            word: 0,
+            stop: Some(Stop::LineEnd),
+            ..f
         },
         None => Step {
             word: 0,

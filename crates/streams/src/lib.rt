@@ -1,26 +1,24 @@
 // Document 01, "Source streams", and document 02, ticket 2: the four methods, each step rounded.
 #![tactic(auto)]
 
-mod line_grams;
-
 ghost use Rattle.std.specs.Prelude.{◌≡◌, ◌≤◌, nat_abs};
 ghost use Rattle.quantity.specs.Methods.{method_number};
 ghost use Rattle.quantity.specs.Streams.{combustion_grams, process_grams, carbon_grams, grams_before_biomass, stream_grams};
 ghost use Rattle.quantity.specs.Ranges.{CombustionRange, ProcessRange, CarbonRange, StreamRange, most_grams};
 
-use line_grams::LineGrams;
+use grams::line_grams::LineGrams;
 use quantity::method::Method;
-use quantity::{Kilos, Megajoules, SignedGrams};
+use quantity::{Grams, Kilos, Megajoules, SignedGrams};
 
 // Method 1, burning: T1 in MJ, T2 in g, then c.
 #[tactic(auto, unfolding(quantity::specs::Streams::combustion_grams))]
 fn combustion(mass: Kilos, a: u64, b: u64, c: u64) -> LineGrams
     requires { CombustionRange mass.0 a b c }
-    ensures { result.grams ≡ combustion_grams mass.0 a b c }
+    ensures { result.grams.0 ≡ combustion_grams mass.0 a b c }
 {
     let t1 = Megajoules(grams::rounded::<1000>(mass.0, a));
     let t2 = LineGrams {
-        grams: grams::rounded::<1000>(t1.0, b),
+        grams: Grams(grams::rounded::<1000>(t1.0, b)),
     };
     t2.oxidised(c)
 }
@@ -29,10 +27,10 @@ fn combustion(mass: Kilos, a: u64, b: u64, c: u64) -> LineGrams
 #[tactic(auto, unfolding(quantity::specs::Streams::process_grams))]
 fn process_emission(mass: Kilos, a: u64, c: u64) -> LineGrams
     requires { ProcessRange mass.0 a c }
-    ensures { result.grams ≡ process_grams mass.0 a c }
+    ensures { result.grams.0 ≡ process_grams mass.0 a c }
 {
     let t1 = LineGrams {
-        grams: grams::rounded::<1000>(mass.0, a),
+        grams: Grams(grams::rounded::<1000>(mass.0, a)),
     };
     t1.oxidised(c)
 }
@@ -41,11 +39,11 @@ fn process_emission(mass: Kilos, a: u64, c: u64) -> LineGrams
 #[tactic(auto, unfolding(quantity::specs::Streams::carbon_grams))]
 fn carbon(mass: Kilos, a: u64) -> LineGrams
     requires { CarbonRange mass.0 a }
-    ensures { result.grams ≡ carbon_grams mass.0 a }
+    ensures { result.grams.0 ≡ carbon_grams mass.0 a }
 {
     let t1 = grams::rounded::<1000>(mass.0, a);
     LineGrams {
-        grams: grams::rounded::<1000>(t1, 3664),
+        grams: Grams(grams::rounded::<1000>(t1, 3664)),
     }
 }
 
@@ -53,7 +51,7 @@ fn carbon(mass: Kilos, a: u64) -> LineGrams
 // kg, a, b and c are no struct: document 01 names them one by one, and each method takes the ones that it uses.
 fn before_biomass(method: Method, mass: Kilos, a: u64, b: u64, c: u64) -> LineGrams
     requires { StreamRange (method_number method) mass.0 a b c 0 }
-    ensures { result.grams ≡ grams_before_biomass (method_number method) mass.0 a b c }
+    ensures { result.grams.0 ≡ grams_before_biomass (method_number method) mass.0 a b c }
 {
     match method {
         Method::Combustion => combustion(mass, a, b, c),
@@ -64,7 +62,7 @@ fn before_biomass(method: Method, mass: Kilos, a: u64, b: u64, c: u64) -> LineGr
 
 // A source stream: the fossil share of its grams, counted minus for carbon going out.
 #[tactic(auto, unfolding(quantity::specs::Streams::stream_grams))]
-fn of_method(method: Method, mass: Kilos, a: u64, b: u64, c: u64, d: u64) -> SignedGrams
+pub fn of_method(method: Method, mass: Kilos, a: u64, b: u64, c: u64, d: u64) -> SignedGrams
     requires { StreamRange (method_number method) mass.0 a b c d }
     ensures result_value { result.0 ≡ stream_grams (method_number method) mass.0 a b c d }
     ensures bounded { nat_abs result.0 ≤ most_grams }
@@ -78,6 +76,7 @@ fn of_method(method: Method, mass: Kilos, a: u64, b: u64, c: u64, d: u64) -> Sig
 }
 
 // A source stream by the number of its method.
+// It takes any number: an enum here would ask more of callers.
 pub fn stream(method: u64, mass: Kilos, a: u64, b: u64, c: u64, d: u64) -> SignedGrams
     requires { StreamRange method mass.0 a b c d }
     ensures result_value { result.0 ≡ stream_grams method mass.0 a b c d }

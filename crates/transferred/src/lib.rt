@@ -1,13 +1,15 @@
 // Document 01, "Attribution": what heat, waste gas and electricity move, and what of it enters the works, leaves it and stays uncredited.
+// The two ends are two parameters, as document 01 names both: what is charged goes by one of them, what is credited by the other.
 #![tactic(auto)]
 
 ghost use Rattle.std.specs.Prelude.{◌≡◌, ◌-◌, ◌≤◌};
 ghost use Rattle.goods.specs.Sums.{only_at};
+ghost use Rattle.quantity.specs.Ranges.{most_megajoules};
 ghost use Rattle.quantity.specs.Weights.{waste_gas_charge, waste_gas_credit};
 ghost use Rattle.ledger.specs.Moved.{moved, heat_moved, between_processes, gas_moved, electricity_moved};
 
 use grams::weighing::{gas_charge, gas_credit};
-use ledger::{Entry, nothing};
+use ledger::Entry;
 use quantity::{Grams, Megajoules};
 
 // An amount where the end is outside the works, else nothing.
@@ -39,7 +41,7 @@ fn sent(from: usize, to: usize, charge: Grams, credit: Grams) -> Entry
         credit,
         entering: outside(from, charge),
         leaving: outside(to, credit),
-        ..nothing()
+        ..Entry::default()
     }
 }
 
@@ -57,11 +59,11 @@ pub fn heat_entry(from: usize, to: usize, weight: Grams) -> Entry
 // Waste gas: its receiver is charged, and its sender credited with 667 thousandths of the charge.
 #[tactic(auto, using(quantity::proofs::Weights::credit_below_charge))]
 pub fn gas_entry(from: usize, to: usize, energy: Megajoules) -> Entry
-    requires { (1 ≤ energy.0) × (energy.0 ≤ 1000000000000) }
+    requires { (1 ≤ energy.0) × (energy.0 ≤ most_megajoules) }
     ensures { result ≡ gas_moved from to (waste_gas_charge energy.0) (waste_gas_credit energy.0) }
 {
-    let charge = gas_charge(energy);
-    let credit = gas_credit(energy);
+    let charge = gas_charge(energy).grams;
+    let credit = gas_credit(energy).grams;
     Entry {
         charged: to,
         charge,

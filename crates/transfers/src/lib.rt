@@ -1,5 +1,6 @@
 // Document 01, "The sheet": rows 5 to 13 of the lines that pass heat, waste gas or electricity from one end to another. A function has its
-// kind's row of the table of kinds, a step a field from the left, and then what the lines above must say.
+// kind's row of the table of kinds, a step a field from the left, and then what the lines above must say. It is written out, and no row of
+// a table in code, for the reason in `kinds`.
 #![tactic(auto, unfolding(sheet::specs::Kinds::rules, checks::specs::Judged::fields_number, checks::specs::Judged::order_number, checks::specs::Steps::words_number))]
 
 ghost use Rattle.std.specs.Prelude.{◌≡◌, eqb};

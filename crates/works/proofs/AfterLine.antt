@@ -6,7 +6,6 @@ use Prim.Native.Nat.{ℕ, ◌+◌, ◌≤◌, ◌<◌}
 use native.Mathlib.Omega.{arith}
 use lib.Dec.{eqb}
 use lib.ListN.{length, get_or}
-use Rattle.lines.specs.Words.{WORDS}
 use Rattle.sheet.specs.Kinds.{letter, rules}
 use Rattle.sheet.specs.declared.Kind.TheVariants.{Process, OwnGood}
 use Rattle.lines.specs.declared.LineRead.{LineRead}
@@ -47,13 +46,13 @@ module _ (n : Noted) (kilos : List ℕ) (l : LineRead) where
 
 -- ---- what is asked of the words
 
-module _ (l : LineRead) (sized : length l.words ≡ WORDS) (keeps : LineKeeps l) where
+module _ (l : LineRead) (keeps : LineKeeps l) where
   pub output_asked : l.letter ≡ letter Process → (get_or l.words 0 0 < SIZE) × (get_or l.words 1 0 ≤ KILOS)
   unfolding rules
   output_asked e =
       let k = kind_at l Process e in
       let n = in_rules limits (record_read l) keeps.ranges Process k in
-      let w = are_words l sized keeps Process k in
+      let w = are_words l keeps Process k in
       (omega (arith, (n.0 refl).high, w.0 refl), omega (arith, (n.1.0 refl).high, w.1.0 refl))
 
   pub good_asked : l.letter ≡ letter OwnGood → (get_or l.words 0 0 < SIZE) × ((get_or l.words 1 0 < SIZE) × (get_or l.words 2 0 ≤ KILOS))
@@ -61,7 +60,7 @@ module _ (l : LineRead) (sized : length l.words ≡ WORDS) (keeps : LineKeeps l)
   good_asked e =
       let k = kind_at l OwnGood e in
       let n = in_rules limits (record_read l) keeps.ranges OwnGood k in
-      let w = are_words l sized keeps OwnGood k in (
+      let w = are_words l keeps OwnGood k in (
         omega (arith, (n.0 refl).high, w.0 refl),
         (omega (arith, (n.1.0 refl).high, w.1.0 refl), omega (arith, (n.1.1.0 refl).high, w.1.1.0 refl)),
       )

@@ -1,5 +1,5 @@
 -- For the code only: what the code holds of the lines above, and after one line more. Laws join it to document 01's sums.
-use Rattle.std.specs.Prelude.{cond, not, List, ℕ, ◌+◌, ◌*◌, ◌≤◌, ◌<◌, eqb, ltb, get_or, replicate}
+use Rattle.std.specs.Prelude.{Bool, false, cond, not, Option, None, Some, List, ℕ, ◌+◌, ◌*◌, ◌≤◌, ◌<◌, eqb, ltb, get_or, replicate}
 use Rattle.quantity.specs.Limits.{Limits, limits}
 use Rattle.sheet.specs.Kinds.{letter}
 use Rattle.sheet.specs.declared.Kind.TheVariants.{Process, OwnGood}
@@ -8,7 +8,6 @@ use Rattle.lines.specs.declared.LineRead.{LineRead}
 use Rattle.goods.specs.Settling.{SIZE}
 use Rattle.ledger.specs.Columns.{AtMost}
 use Rattle.ledger.specs.Ledger.{added, booked, start}
-use Rattle.ledger.specs.declared.Ledger.{Ledger}
 use Rattle.checks.specs.declared.above.Above.{Above}
 use Rattle.judge.specs.Line.{line_number}
 use Rattle.entries.specs.Entries.{entry}
@@ -23,9 +22,6 @@ noted_of lines count outputs taken = record {
   outputs = record { 0 = outputs };
   taken = record { 0 = taken };
 }
-
-abbrev pub works_of : (lines count : ℕ) → (outputs taken : List ℕ) → Ledger → Works
-works_of lines count outputs taken ledger = record { noted = noted_of lines count outputs taken; ledger = ledger }
 
 -- the kilograms of a process and of a pair of processes, 0 where there is no such place
 abbrev pub of_process : (kilos : List ℕ) → (n : ℕ) → ℕ
@@ -51,12 +47,17 @@ above_at n kilos l = record {
 abbrev pub above_of : Works → (kilos : List ℕ) → LineRead → Above
 above_of w kilos l = above_at w.noted kilos l
 
--- 2 to 13 of a line that was read, in a sheet of so many bytes
-abbrev pub read_number : Limits → LineRead → (size : ℕ) → Above → ℕ
-read_number limits l size above = line_number limits (not (eqb l.end size)) l.letter l.count l.words above
+-- whether a line lacks its LF: its end is that of a sheet of so many bytes; None where no line of the sheet can lack it
+abbrev pub lacks_lf : (end : ℕ) → (size : Option ℕ) → Bool
+lacks_lf end None = false
+lacks_lf end (Some size) = eqb end size
+
+-- 2 to 13 of a line that was read
+abbrev pub read_number : Limits → LineRead → (size : Option ℕ) → Above → ℕ
+read_number limits l size above = line_number limits (not (lacks_lf l.end size)) l.letter l.count l.words above
 
 -- the same, from the state
-abbrev pub state_number : Limits → Noted → (kilos : List ℕ) → LineRead → (size : ℕ) → ℕ
+abbrev pub state_number : Limits → Noted → (kilos : List ℕ) → LineRead → (size : Option ℕ) → ℕ
 state_number limits n kilos l size = read_number limits l size (above_at n kilos l)
 
 -- a P line: one process more, and its output

@@ -7,18 +7,19 @@ ghost use Rattle.works.specs.Works.{of_process, of_pair, above_at, state_number}
 use super::Noted;
 use checks::above::Above;
 use checks::refusals::Refusal;
-use goods::{KilosByPair, SIZE};
+use goods::{KilosByPair, KilosByProcess, SIZE};
 use judge::line_refusal;
 use lines::LineRead;
 use quantity::Kilos;
 use quantity::limits::LINES;
+use sheet::Kind;
 
 // The kilograms of a process, 0 where it has no place.
-fn of_process(kilos: &[u64; SIZE], n: u64) -> Kilos
-    ensures { result.0 ≡ of_process kilos.now n }
+fn of_process(kilos: &KilosByProcess, n: u64) -> Kilos
+    ensures { result.0 ≡ of_process kilos.now.0 n }
 {
     if n < SIZE as u64 {
-        Kilos(kilos[n as usize])
+        Kilos(kilos.0[n as usize])
     } else {
         Kilos(0)
     }
@@ -37,40 +38,45 @@ fn of_pair(kilos: &KilosByPair, from: u64, to: u64) -> Kilos
 
 impl Noted {
     // What the lines above say of a line: of an own good the kilograms too.
+    #[tactic(auto, unfolding(sheet::specs::Kinds::kind_of, sheet::specs::Kinds::kind_among))]
     pub fn above(&self, kilos: &KilosByPair, l: &LineRead) -> Above
         ensures { result ≡ above_at self.now kilos.now l.now }
     {
         let lines = self.lines;
         let processes = self.count;
-        // One letter is asked for, so no Kind is made of it.
-        if l.letter != b'G' {
-            return Above {
+        match Kind::from(l.letter) {
+            Kind::OwnGood => {
+                let from = l.words[0];
+                let to = l.words[1];
+                Above {
+                    lines,
+                    processes,
+                    output: of_process(&self.outputs, from),
+                    taken: of_process(&self.taken, from),
+                    pair: of_pair(kilos, from, to),
+                }
+            }
+            _ => Above {
                 lines,
                 processes,
-                output: Kilos(0),
-                taken: Kilos(0),
-                pair: Kilos(0),
-            };
-        }
-        let from = l.words[0];
-        let to = l.words[1];
-        Above {
-            lines,
-            processes,
-            output: of_process(&self.outputs.0, from),
-            taken: of_process(&self.taken.0, from),
-            pair: of_pair(kilos, from, to),
+                ..Above::default()
+            },
         }
     }
 
-    // Rows 2 to 13 of a line in a sheet of `size` bytes, under the lines above.
-    pub fn judge(&self, kilos: &KilosByPair, l: &LineRead, size: usize) -> Result<(), Refusal>
+    // Rows 2 to 13 of a line in a sheet of `size` bytes, None where no line of it can lack its LF, under the lines above.
+    pub fn judge(
+        &self,
+        kilos: &KilosByPair,
+        l: &LineRead,
+        size: Option<usize>,
+    ) -> Result<(), Refusal>
         ensures { number_judged result ≡ state_number limits self.now kilos.now l.now size }
     {
         if LINES <= self.lines {
             return Err(Refusal::TooManyLines);
         }
-        if l.end == size {
+        if Some(l.end) == size {
             return Err(Refusal::LacksLF);
         }
         line_refusal(l, self.above(kilos, l))

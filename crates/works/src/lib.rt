@@ -6,12 +6,12 @@ pub mod judging;
 ghost use Rattle.std.specs.Prelude.{◌≡◌};
 ghost use Rattle.works.specs.Works.{nothing_noted};
 
-use goods::{KilosByProcess, SIZE};
+use goods::KilosByProcess;
 use ledger::Ledger;
 
 // What the lines above say of outputs and own goods: how many they are, how many of them are P lines, the kilograms of each process's output
 // and those that G lines take of it.
-#[derive(Clone, Copy)]
+#[derive(Clone, Copy, Default)]
 pub struct Noted {
     pub lines: usize,
     pub count: usize,
@@ -24,18 +24,13 @@ impl Noted {
     pub fn none() -> Noted
         ensures { result ≡ nothing_noted }
     {
-        let no_kilos = KilosByProcess([0; SIZE]);
-        Noted {
-            lines: 0,
-            count: 0,
-            outputs: no_kilos,
-            taken: no_kilos,
-        }
+        Noted::default()
     }
 }
 
-// What the lines above say, and the grams that they move.
-#[derive(Clone, Copy)]
+// What the lines above say, and the grams that they move. The kilograms of pairs are lent beside it and are no part of it: they have 2,312
+// bytes, and the works is handed on by value.
+#[derive(Clone, Copy, Default)]
 pub struct Works {
     pub noted: Noted,
     pub ledger: Ledger,

@@ -4,7 +4,10 @@ use mathlib.Core.List.{List, [], ◌∷◌, ◌++◌}
 use Prim.Native.Nat.{ℕ, zero, suc, ◌≤◌}
 use native.Mathlib.Omega.{arith}
 use native.Mathlib.Nat.{le_refl}
+use borrow.Author.Tests.{le-ltb}
 use lib.ListN.{length}
+use Rattle.decimal.specs.Writing.{Put}
+use Rattle.decimal.proofs.Writing.{start_bytes, start_place}
 use Rattle.quantity.specs.Limits.{limits}
 use Rattle.lines.specs.Records.{Record, records_of}
 use Rattle.sheet.specs.Verdict.{Check, check, Verdict, first_of}
@@ -63,6 +66,11 @@ module _ (rs : List Record) (r : Reckoning) (f : FiguresOf rs r) where
   reckoning_is =
       rw (rows_are r.count (le_refl r.count), f.counted, f.left_is, f.entered_is, f.raised_is, f.uncredited_is)
 
+-- ---- 16 is not given to a space of LONGEST bytes
+
+pub long_enough : (sheet space : List ℕ) (given : Outcome) → given ≡ outcome limits sheet space → LONGEST ≤ length space → given.number ≡ 16 → ⊥
+long_enough sheet space given e h n = never_short limits (omega arith) sheet space h (sym (ap (λ (o : Outcome). o.number) e) ∙ n)
+
 -- ---- number, line, length and every byte
 
 module _ (sheet space : List ℕ) where
@@ -80,6 +88,9 @@ module _ (sheet space : List ℕ) where
     refused_outcome =
         let w = first_here (reckoner_checks limits sheet) last (refusal_number e.refusal) e.line v in
         sym (ap (λ (v : Verdict). outcome_of v (sheet_report sheet) space) w)
+
+    pub refused_enough : LONGEST ≤ length space → refusal_number e.refusal ≡ 16 → ⊥
+    refused_enough = long_enough sheet space _ refused_outcome
 
   -- none does
   module _ (r : Reckoning) (h : Figured sheet r) where
@@ -104,7 +115,12 @@ module _ (sheet space : List ℕ) where
     accepted_within =
         ap (λ (report : List ℕ). outcome_within report space) bytes_are ∙ sym (ap (λ (v : Verdict). outcome_of v (sheet_report sheet) space) passes)
 
--- ---- 16 is not given to a space of LONGEST bytes
+    -- and does not apply where there is room for every report
+    written_within : {after : List ℕ} {n : ℕ} → length (bytes_held r) ≤ length space → Put space 0 (bytes_held r) after n
+        → record { number = 0; line = 0; length = n; space = after } ≡ outcome_within (bytes_held r) space
+    unfolding first_of
+    written_within fits w = rw (le-ltb (length space) (length (bytes_held r)) fits, start_place w, start_bytes w)
 
-pub long_enough : (sheet space : List ℕ) (given : Outcome) → given ≡ outcome limits sheet space → LONGEST ≤ length space → given.number ≡ 16 → ⊥
-long_enough sheet space given e h n = never_short limits (omega arith) sheet space h (sym (ap (λ (o : Outcome). o.number) e) ∙ n)
+    pub accepted_written : {after : List ℕ} {n : ℕ} → LONGEST ≤ length space → Put space 0 (bytes_held r) after n
+        → record { number = 0; line = 0; length = n; space = after } ≡ outcome limits sheet space
+    accepted_written room w = written_within (omega (arith, report_short, room)) w ∙ accepted_within

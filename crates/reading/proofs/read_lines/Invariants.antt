@@ -1,12 +1,11 @@
--- The loop of `read_lines`: the lines from the place on are left, and the state holds those above (`ReadingAt`). The measure is how many bytes
--- are left.
-use Prim.Native.Nat.{◌-◌}
-use lib.ListN.{length}
+-- The loop of `read_lines`: the lines from the place on are left, and the state holds those above (`ReadingAt`).
+use mathlib.Core.Path.{◌≡◌}
 use Rattle.gathering.proofs.FromBytes.{ReadingAt}
 use Rattle.reading.proofs.read_lines.Given as goal
 
-abbrev pub invariant-loop-at : goal.invariant-loop-at
-invariant-loop-at l = ReadingAt l.s l.at l.works l.kilos
-
-abbrev pub decreases-loop-at : goal.decreases-loop-at
-decreases-loop-at l = length l.s - l.at
+abbrev pub invariant-loop-l : goal.invariant-loop-l
+invariant-loop-l l =
+    (goal.iterator-loop-l).can_next l.l-iterator
+    × (goal.iterator-loop-l).is_finite l.l-iterator
+    × (l.l-iterator.sheet.now ≡ l.s)
+    × ReadingAt l.s l.l-iterator.at l.works l.kilos

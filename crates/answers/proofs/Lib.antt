@@ -1,2 +1,0 @@
--- Laws of row 16.
-pub mod Within

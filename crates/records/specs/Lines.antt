@@ -1,0 +1,12 @@
+-- For the code only: the lines that are read of a sheet, one after the other.
+use Rattle.std.specs.Prelude.{◌≡◌, Option, None, Some, ℕ, ◌+◌, ◌≤◌, ◌<◌, length}
+use Rattle.lines.specs.Words.{ReadAt}
+use Rattle.lines.specs.declared.LineRead.{LineRead}
+use Rattle.records.specs.declared.Lines.{Lines}
+
+-- the line that starts at the place is given, or none starts there
+abbrev pub GivesLine : Lines → Option LineRead → Lines → Type 0
+GivesLine old None new = length old.sheet.now ≤ old.at
+GivesLine old (Some l) new =
+    (old.at < length old.sheet.now) × ReadAt old.sheet.now old.at l × (new.sheet.now ≡ old.sheet.now)
+    × (l.end < length old.sheet.now → new.at ≡ l.end + 1)
