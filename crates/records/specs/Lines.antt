@@ -4,9 +4,10 @@ use Rattle.lines.specs.Words.{ReadAt}
 use Rattle.lines.specs.declared.LineRead.{LineRead}
 use Rattle.records.specs.declared.Lines.{Lines}
 
--- the line that starts at the place is given, or none starts there
+-- the line that starts at the place is given, and the next place is behind it, past the sheet's end where the line lacks its LF; or none starts there,
+-- and nothing changes
 abbrev pub GivesLine : Lines → Option LineRead → Lines → Type 0
-GivesLine old None new = length old.sheet.now ≤ old.at
+GivesLine old None new = (length old.sheet.now ≤ old.at) × (new.sheet.now ≡ old.sheet.now) × (new.at ≡ old.at)
 GivesLine old (Some l) new =
     (old.at < length old.sheet.now) × ReadAt old.sheet.now old.at l × (new.sheet.now ≡ old.sheet.now)
-    × (l.end < length old.sheet.now → new.at ≡ l.end + 1)
+    × (l.end < length old.sheet.now → new.at ≡ l.end + 1) × (length old.sheet.now ≤ l.end → length old.sheet.now ≤ new.at)

@@ -80,7 +80,7 @@ loop-l-preserved c =
 
 pub returns : goal.returns
 returns c =
-    let done = rw c.loop-l.invariant.2 at c.in-None.ensures.steps in
+    let done = rw c.loop-l.invariant.2 at c.in-None.ensures.steps.0 in
     record {
       passed = verdict_at _ _ _ _ c.loop-l.invariant.3 done;
       gathered = gathered_at _ _ _ _ c.loop-l.invariant.3 done;

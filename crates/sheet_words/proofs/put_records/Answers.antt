@@ -29,4 +29,4 @@ shape_of-list c = put_long _ _ _ _ _ c.loop-l.invariant.3
 pub returns : goal.returns
 returns c =
     let left = c.loop-l.invariant in
-    put_all _ _ _ _ _ left.3 (rw left.2 at c.in-None.ensures.steps)
+    put_all _ _ _ _ _ left.3 (rw left.2 at c.in-None.ensures.steps.0)
