@@ -10,6 +10,7 @@ use lib.IntN.{ℤ, pos, negsuc, nat_abs}
 use borrow.Author.Tests.{eqb-true, eqb-false, ltb-true, leb-true, not-false}
 use Rattle.decimal.proofs.Bools.{never, and_both, or_neither}
 use Rattle.quantity.specs.Limits.{Limits, limits}
+use Rattle.quantity.specs.Ranges.{most_grams}
 use Rattle.quantity.proofs.Small.{weight_small, charge_small, stream_small}
 use Rattle.quantity.proofs.Weights.{credit_below_charge}
 use Rattle.lines.specs.Records.{Record, number_at}
@@ -30,7 +31,7 @@ use Rattle.entries.specs.Weighed.{stream_of, heat_of, charge_of, credit_of, elec
 use Rattle.entries.specs.Entries.{entry_of, entry}
 use Rattle.attribution.specs.Reckoning.{process_count, output, kilos_between}
 use Rattle.entries.proofs.Ranges.{in_rules}
-use Rattle.entries.proofs.Streams.{process_range, stream-range}
+use Rattle.entries.proofs.Streams.{process_range, stream_range}
 
 -- ---- what the records of every sheet have by which no row 1 to 14 applies
 
@@ -208,40 +209,37 @@ between_le f t grams = go (eqb 0 f || eqb 0 t)
     go true = omega arith
     go false = omega arith
 
-abbrev MOST : ℕ
-MOST = 1000000000000000
-
 module _ (limits : Limits) (r : Record) (keeps : KeepsRanges limits r) where
-  stream_le : kind r ≡ SourceStream → (raised_to_zero (stream_of r) ≤ MOST) × (grams_added (stream_of r) ≤ MOST)
+  stream_le : kind r ≡ SourceStream → (raised_to_zero (stream_of r) ≤ most_grams) × (grams_added (stream_of r) ≤ most_grams)
   unfolding stream_of
-  stream_le e = parts_le (stream_of r) MOST (rw (is_kind SourceStream r e) (stream_small _ _ _ _ _ _ (stream-range limits r keeps e)))
+  stream_le e = parts_le (stream_of r) most_grams (rw (is_kind SourceStream r e) (stream_small _ _ _ _ _ _ (stream_range limits r keeps e)))
 
-  heat_le : kind r ≡ MeasurableHeat → heat_of r ≤ MOST
+  heat_le : kind r ≡ MeasurableHeat → heat_of r ≤ most_grams
   unfolding rules heat_of
   heat_le e =
       let n = in_rules limits r keeps MeasurableHeat e in
-      rw (is_kind MeasurableHeat r e) (weight_small _ _ 1000000000000 400000 MOST (n.1.1.0 refl).high (n.1.1.1.0 refl).high (omega arith))
+      rw (is_kind MeasurableHeat r e) (weight_small _ _ 1000000000000 400000 most_grams (n.1.1.0 refl).high (n.1.1.1.0 refl).high (omega arith))
 
-  gas_le : kind r ≡ WasteGas → (charge_of r ≤ MOST) × (credit_of r ≤ charge_of r)
+  gas_le : kind r ≡ WasteGas → (charge_of r ≤ most_grams) × (credit_of r ≤ charge_of r)
   unfolding rules charge_of credit_of
   gas_le e =
       let n = in_rules limits r keeps WasteGas e in
       rw (is_kind WasteGas r e) (charge_small (number_at r 2) (n.1.1.0 refl).high, omega (arith, credit_below_charge (number_at r 2) (n.1.1.0 refl).low))
 
-  electricity_le : kind r ≡ Electricity → electricity_of r ≤ MOST
+  electricity_le : kind r ≡ Electricity → electricity_of r ≤ most_grams
   unfolding rules electricity_of
   electricity_le e =
       let n = in_rules limits r keeps Electricity e in
-      rw (is_kind Electricity r e) (weight_small _ _ 100000000000 2000000 MOST (n.1.1.0 refl).high (n.1.1.1.0 refl).high (omega arith))
+      rw (is_kind Electricity r e) (weight_small _ _ 100000000000 2000000 most_grams (n.1.1.0 refl).high (n.1.1.1.0 refl).high (omega arith))
 
-  bought_le : kind r ≡ BoughtPrecursor → (bought_direct_of r ≤ MOST) × (bought_indirect_of r ≤ MOST)
+  bought_le : kind r ≡ BoughtPrecursor → (bought_direct_of r ≤ most_grams) × (bought_indirect_of r ≤ most_grams)
   unfolding rules bought_direct_of bought_indirect_of
   bought_le e =
       let n = in_rules limits r keeps BoughtPrecursor e in
       let mass = (n.1.0 refl).high in
       rw (is_kind BoughtPrecursor r e) (
-        weight_small _ _ 10000000000 100000000 MOST mass (n.1.1.0 refl).high (omega arith),
-        weight_small _ _ 10000000000 100000000 MOST mass (n.1.1.1.0 refl).high (omega arith),
+        weight_small _ _ 10000000000 100000000 most_grams mass (n.1.1.0 refl).high (omega arith),
+        weight_small _ _ 10000000000 100000000 most_grams mass (n.1.1.1.0 refl).high (omega arith),
       )
 
 grams_of : (limits : Limits) (j : Kind) (r : Record) → kind r ≡ j → KeepsRanges limits r → SmallGrams (entry_of j r)

@@ -1,6 +1,6 @@
 -- ROW 15 NEVER APPLIES: where as many lines as are allowed, each of at most `line_grams`, stay below 2^63, so does every whole-gram figure of a
 -- sheet by which no row 1 to 14 applies. Stated over the definitions alone. Assumes nothing.
-use mathlib.Core.Path.{◌≡◌, refl, ap, ◌∙◌}
+use mathlib.Core.Path.{◌≡◌, refl, sym, ap, ◌∙◌}
 use mathlib.Core.Bool.{false}
 use mathlib.Core.List.{List, [], ◌∷◌, ◌++◌, map}
 use Prim.Native.Nat.{ℕ, zero, suc, ◌+◌, ◌*◌, ◌≤◌, ◌<◌}
@@ -14,7 +14,8 @@ use Rattle.lines.specs.Lines.{Line, lines_of}
 use Rattle.lines.specs.Records.{Record, record_of, records_of}
 use Rattle.sheet.specs.Refusals.{sum_of}
 use Rattle.sheet.specs.Verdict.{check, Verdict, accepted, refused, first_of, sheet_checks, All, Passes}
-use Rattle.sheet.proofs.First.{accepted_passes, first_rest, first_here}
+use Rattle.sheet.proofs.First.{all_join, never_by, accepted_passes, first_rest, first_here}
+use Rattle.sheet.proofs.Numbers.{sheet_another}
 use Rattle.sheet.proofs.Passed.{PassedLines, sheet_passed}
 use Rattle.goods.specs.Sums.{sum_to}
 use Rattle.goods.specs.Goods.{pool_of, left_of}
@@ -120,10 +121,6 @@ unfolding any_from
 none_from [] h = refl
 none_from (g ∷ gs) h = rw (lt-leb whole_grams g h.0) (none_from gs h.1)
 
-all_join : (a b : List ℕ) → All Below a → All Below b → All Below (a ++ b)
-all_join [] b p q = q
-all_join (g ∷ a) b p q = (p.0, all_join a b p.1 q)
-
 rows_join : (a : List Row) (r : Row) → rows_grams (a ++ (r ∷ [])) ≡ rows_grams a ++ row_grams r
 unfolding rows_grams
 rows_join [] r = refl
@@ -136,13 +133,13 @@ module _ (rs : List Record) (ok : Accepted rs) (sums : SumsBelow rs) where
   rows_below (suc k) h =
       let b = row_below rs ok sums (suc k) (omega arith) h in
       rw (rows_join (rows_to rs k) (row_of rs (suc k)))
-      (all_join (rows_grams (rows_to rs k)) _ (rows_below k (omega arith))
+      (all_join Below (rows_grams (rows_to rs k)) _ (rows_below k (omega arith))
       (b.directs, (b.indirects, (b.raiseds, (b.direct_pools, (b.indirect_pools, (b.direct_lefts, (b.indirect_lefts, tt))))))))
 
   none_too_large : figure_too_large (reckoning rs) ≡ false
   unfolding figure_too_large reckoning
   none_too_large =
-      none_from _ (all_join (rows_grams (rows_to rs (process_count rs))) _ (rows_below (process_count rs) (le_refl (process_count rs)))
+      none_from _ (all_join Below (rows_grams (rows_to rs (process_count rs))) _ (rows_below (process_count rs) (le_refl (process_count rs)))
       (left_below_limit rs ok sums, (sums.entered, (sums.raised, (sums.uncredited, tt)))))
 
 -- ---- of every sheet
@@ -185,3 +182,8 @@ module _ (limits : Limits) where
 -- with document 01's limits: 4,096 lines
 pub fifteen_never_given : (sheet : List ℕ) → first_of (reckoner_checks limits sheet) ≡ first_of (sheet_checks limits sheet)
 fifteen_never_given = never_fifteen limits (omega arith)
+
+-- no sheet is refused by row 15
+pub no_fifteen : (sheet : List ℕ) (line : ℕ) → first_of (reckoner_checks limits sheet) ≡ refused 15 line → ⊥
+no_fifteen sheet line r =
+    never_by 15 (sheet_checks limits sheet) (sheet_another 15 (omega arith) limits sheet) line (sym (fifteen_never_given sheet) ∙ r)

@@ -13,11 +13,13 @@ const MOST: usize = BYTES + 1;
 fn main(rt: HostRuntime) {
     let mut stdin = rt.stdin();
     let mut sheet = [0u8; MOST];
-    let got = read_full(&mut stdin, &mut sheet);
-    if !at_end(got, read_more(&mut stdin)) {
-        tell(rt, b"carbon: the sheet was not read to its end\n");
-        return;
-    }
+    let got = match read_full(&mut stdin, &mut sheet) {
+        Ok(got) if at_end(got, read_more(&mut stdin)) => got,
+        _ => {
+            tell(rt, b"carbon: the sheet was not read to its end\n");
+            return;
+        }
+    };
     let mut space = [0u8; LONGEST];
     let length = writer::print(&sheet[..got], &mut space);
     if rt.stdout().write_all(&space[..length]).is_err() {

@@ -91,23 +91,26 @@ fn round_trip(sheet: &[u8], case: Case) -> bool {
     }
 }
 
+// Whether the input had as many bytes as the buffer holds, and no read failed.
+fn fills(stdin: &mut Stdin, buffer: &mut [u8]) -> bool {
+    matches!(read_full(stdin, buffer), Ok(got) if got == buffer.len())
+}
+
 // Whether a case, whose header is read, comes out as it should.
 fn holds(stdin: &mut Stdin, case: Case) -> bool {
     let mut sheet = [0u8; SHEET];
     let mut wanted = [0u8; SPACE];
     let mut space = [FILL; SPACE];
-    if read_full(stdin, &mut sheet[..case.sheet]) != case.sheet {
+    let sheet = &mut sheet[..case.sheet];
+    let wanted = &mut wanted[..case.report];
+    if !fills(stdin, sheet) || !fills(stdin, wanted) {
         return false;
     }
-    if read_full(stdin, &mut wanted[..case.report]) != case.report {
-        return false;
-    }
-    let sheet = &sheet[..case.sheet];
     let answer = Answer::from(writer::report(sheet, &mut space[..case.space]));
     (answer.number == case.number)
         & (answer.line == case.line)
         & (answer.length == case.report)
-        & as_wanted(&space, &wanted[..case.report])
+        & as_wanted(&space, wanted)
         & round_trip(sheet, case)
 }
 
@@ -117,7 +120,7 @@ fn main(rt: HostRuntime) {
     let mut tried: usize = 0;
     let mut different: usize = 0;
     for _ in 0..MOST {
-        if read_full(&mut stdin, &mut header) != HEADER {
+        if !fills(&mut stdin, &mut header) {
             break;
         }
         tried += 1;

@@ -2,7 +2,7 @@
 use mathlib.Core.Path.{◌≡◌, refl, sym, ap}
 use mathlib.Core.Bool.{true≢false}
 use native.Mathlib.Omega.{arith}
-use Rattle.std.specs.Prelude.{ℕ, Result, Ok, Err, ⊤}
+use Rattle.std.specs.Prelude.{Result, Ok, Err, ⊤}
 use Rattle.std.specs.Result.{MatchResult, IsErrAnd, is_ok}
 use Rattle.checks.specs.Numbers.{refusal_number, number_judged}
 use Rattle.checks.specs.declared.refusals.Refusal.{Refusal}

@@ -98,11 +98,11 @@ module _ (limits : Limits) (r : Record) (keeps : KeepsRanges limits r) (e : kind
     }
 
   -- what the method asks of the values
-  pub stream-range :
+  pub stream_range :
       StreamRange (number_at r 1) (number_at r 3) (or_standard (field r 4) (standard_a (number_at r 1) (number_at r 2)))
       (or_standard (field r 5) (standard_b (number_at r 2))) (number_at r 6) (number_at r 7)
   unfolding method_rules
-  stream-range = go (eqb n 1) refl (eqb n 2) refl (eqb n 3) refl (eqb n 4) refl
+  stream_range = go (eqb n 1) refl (eqb n 2) refl (eqb n 3) refl (eqb n 4) refl
     where
       n : ℕ
       n = number_at r 1

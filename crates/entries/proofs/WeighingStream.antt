@@ -23,7 +23,7 @@ use Rattle.entries.specs.Weighed.{or_standard, stream_of}
 use Rattle.entries.specs.Entries.{entry}
 use Rattle.entries.specs.Read.{record_read, LineKeeps, or_standard_word}
 use Rattle.entries.proofs.Ranges.{number_is, standard_is}
-use Rattle.entries.proofs.Streams.{plain_stream_lem, method_range, stream-range, eight}
+use Rattle.entries.proofs.Streams.{plain_stream_lem, method_range, stream_range, eight}
 use Rattle.entries.proofs.OfKind.{w, kind_at, is_at, entry_at}
 
 -- `S,n,method,code,kg,a,b,c,d`: a and b as given, or the standard value
@@ -89,7 +89,7 @@ module _ (l : LineRead) (keeps : LineKeeps l) (e : l.letter ≡ letter SourceStr
       is_method (w l 1) r h m.0 m.1
 
   pub stream_asked : {m a b : ℕ} → m ≡ w l 1 → a ≡ given_a l m → b ≡ given_b l → StreamRange m (w l 3) a b (w l 6) (w l 7)
-  stream_asked m p q = rw (p, q, m) (stream_same StreamRange l same (stream-range limits (record_read l) keeps.ranges kind_is))
+  stream_asked m p q = rw (p, q, m) (stream_same StreamRange l same (stream_range limits (record_read l) keeps.ranges kind_is))
 
   pub stream_entry : {m a b : ℕ} {z : ℤ} → m ≡ w l 1 → a ≡ given_a l m → b ≡ given_b l → z ≡ stream_grams m (w l 3) a b (w l 6) (w l 7)
       → stream_moved (w l 0) z ≡ entry (record_read l)

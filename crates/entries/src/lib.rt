@@ -34,7 +34,7 @@ impl<'a> KeptLine<'a> {
         let code = words[2];
         let a = given::given_a(method, code, words[4]);
         let b = given::given_b(code, words[5]);
-        let grams = streams::of_method(method, Kilos(words[3]), a, b, words[6], words[7]);
+        let grams = streams::stream(method, Kilos(words[3]), a, b, words[6], words[7]);
         moves::stream_entry(words[0] as usize, grams)
     }
 

@@ -2,7 +2,7 @@
 #![tactic(auto)]
 
 ghost use Rattle.std.specs.Prelude.{◌≡◌, ◌+◌, ◌≤◌, length, drop};
-ghost use Rattle.fields.specs.Scan.{field_length, word_of, said_by};
+ghost use Rattle.fields.specs.Scan.{field_length, word_of};
 ghost use Rattle.fields.specs.Scan.{ScannedAt, FieldReadAt, FieldBounds};
 
 use lines::{CAP, DASH, OTHER};

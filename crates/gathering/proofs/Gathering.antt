@@ -56,11 +56,15 @@ module _ (sheet : List ℕ) (w : Works) (kilos : List ℕ) (rd : Reading (lines_
   pub gathered : Gathered (records_of sheet) w kilos
   unfolding output indirect
   gathered = record {
+    lines = rd.standing.lines ∙ same_length rd.above (records_of sheet) same;
     count = goods.counted;
     few = rd.standing.held.most;
     outputs_size = goods.outputs_size;
     output_at = goods.output_at;
+    taken_size = goods.taken_size;
+    taken_at = goods.taken_at;
     kilos_at = goods.kilos_at;
+    ledger_size = ledger.sized;
     balance_at = λ i. ledger.balances i ∙ sym (balance_is rs i);
     indirect_at = λ i. ledger.indirect i ∙ sym (figures i rs).used;
     bought_direct_at = λ i. ledger.bought_direct i ∙ sym (figures i rs).direct;

@@ -5,8 +5,9 @@ use Rattle.lines.specs.Records.{Record, record_of, records_of}
 use Rattle.goods.specs.ByProcess.{SIZE, figures}
 use Rattle.goods.specs.Settling.{PAIRS, pairs}
 use Rattle.ledger.specs.Columns.{signed_figures}
-use Rattle.ledger.specs.Ledger.{Room}
+use Rattle.ledger.specs.Ledger.{Sized, Room}
 use Rattle.quantity.specs.Limits.{limits}
+use Rattle.sheet.specs.Refusals.{sum_of, taken_in}
 use Rattle.sheet.specs.Verdict.{accepted, first_of, lines_checks}
 use Rattle.checks.specs.Numbers.{refused_by}
 use Rattle.checks.specs.declared.refusals.Refused.{Refused}
@@ -15,12 +16,19 @@ use Rattle.attribution.specs.Reckoning.{process_count, output, kilos_between, en
 use Rattle.sheet.specs.Most.{MOST}
 use Rattle.works.specs.declared.Works.{Works}
 
+-- every field of the state, by an equation
 pub record Gathered (rs : List Record) (w : Works) (kilos : List ℕ) : Type 0 where
+  -- how many lines there are, and how many of them are P lines
+  pub lines : w.noted.lines ≡ length rs
   pub count : w.noted.count ≡ process_count rs
   pub few : w.noted.count ≤ limits.processes
   pub outputs_size : length w.noted.outputs.0 ≡ SIZE
   pub output_at : (i : ℕ) → figures w.noted.outputs.0 i ≡ output rs i
+  -- `G,from,to,kg`: the kilograms that G lines take from each process
+  pub taken_size : length w.noted.taken.0 ≡ SIZE
+  pub taken_at : (i : ℕ) → figures w.noted.taken.0 i ≡ sum_of (taken_in i) rs
   pub kilos_at : (i j : ℕ) → j < SIZE → pairs kilos i j ≡ kilos_between rs i j
+  pub ledger_size : Sized w.ledger
   pub balance_at : (i : ℕ) → signed_figures w.ledger.balances.0 i ≡ balance rs i
   pub indirect_at : (i : ℕ) → figures w.ledger.indirect.0 i ≡ indirect rs i
   pub bought_direct_at : (i : ℕ) → figures w.ledger.bought_direct.0 i ≡ bought_direct rs i

@@ -45,7 +45,8 @@ module _ (n : ℕ) (output : ℕ → ℕ) (kilos : ℕ → ℕ → ℕ) (own : �
   taken_is (suc k) j = rw (length_pools k) (omega (arith, taken_is k j))
 
   -- THE PAPER'S EQUATION: a pool is its own grams and the portions that it takes of the pools before it
-  pub pool_is : (k : ℕ) → pool (suc k) ≡ own (suc k) + sum_to k (λ i. portion_of (pool i) (output i) (takers (kilos i) n) (suc k))
+  pub pool_is : (k : ℕ) → pool_of n output kilos own (suc k)
+      ≡ own (suc k) + sum_to k (λ i. portion_of (pool_of n output kilos own i) (output i) (takers (kilos i) n) (suc k))
   unfolding pool_of pools_to
   pool_is k = ap (λ (s : ℕ). own (suc k) + s) (taken_is k (suc k))
 

@@ -9,7 +9,7 @@ pub use Rattle.goods.specs.ByProcess.{SIZE}
 abbrev pub PAIRS : ℕ
 PAIRS = SIZE * SIZE
 
--- 2 ^ 61 kilograms, the most that `quotient` divides by: a sheet has at most 10,000,000,000
+-- 2 ^ 61, the most that `shares::quotients` divides by: a sheet has at most 10,000,000,000 kilograms
 abbrev largest_output : ℕ
 largest_output = 2305843009213693952
 

@@ -1,7 +1,7 @@
 // Document 01: bytes read from standard input, and whether the program `carbon` read the sheet to its end.
 #![tactic(auto)]
 
-ghost use Rattle.std.specs.Prelude.{◌≡◌, ℕ, ◌≤◌, [], ◌∷◌, length, take, true, false, Ok, OnErr};
+ghost use Rattle.std.specs.Prelude.{◌≡◌, ℕ, ◌<◌, ◌≤◌, [], ◌∷◌, length, take, true, false, Ok, IfOk, OnErr};
 ghost use Rattle.std.specs.Io.KnownBytes.{Consumes, IsAtEnd, Keeps};
 ghost use Rattle.input.specs.End.{at_end};
 
@@ -16,20 +16,26 @@ pub fn at_end(got: usize, after: io::Result<bool>) -> bool
     BYTES < got || matches!(after, Ok(false))
 }
 
-// Reads until the buffer is full, the input ends or a read fails, and gives how many bytes stand at its start.
-pub fn read_full<R: Read>(reader: &mut R, buffer: &mut [u8]) -> usize
-    ensures within { result ≤ length buffer.old }
-    ensures bytes { Consumes (R.remaining reader.old) (R.remaining reader.new) (take result buffer.new) }
+// Reads until the buffer is full or the input ends, and gives how many bytes stand at the buffer's start: fewer than it has room for only at
+// the input's end. Where a read fails, its fault is given: what the reads before it gave stands at the start then too, but not how many bytes
+// these are is told. Of what stands past them nothing is promised, since std says nothing of what a read leaves there.
+pub fn read_full<R: Read>(reader: &mut R, buffer: &mut [u8]) -> io::Result<usize>
+    ensures within { IfOk result (λ n. n ≤ length buffer.old) }
+    ensures bytes { IfOk result (λ n. Consumes (R.remaining reader.old) (R.remaining reader.new) (take n buffer.new)) }
+    ensures end { IfOk result (λ n. n < length buffer.old → IsAtEnd (R.remaining reader.new)) }
+    ensures failed { OnErr result ((n : ℕ) × (n < length buffer.old)
+        × Consumes (R.remaining reader.old) (R.remaining reader.new) (take n buffer.new)) }
 {
     let mut done: usize = 0;
     // how many turns there are isn't known before: each read gives as many bytes as it has
     while done < buffer.len() {
         match reader.read(&mut buffer[done..]) {
-            Ok(0) | Err(_) => return done,
+            Ok(0) => return Ok(done),
             Ok(n) => done += n,
+            Err(fault) => return Err(fault),
         }
     }
-    done
+    Ok(done)
 }
 
 // One read of one byte more: true where there was one, false at the input's end.

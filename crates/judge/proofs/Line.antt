@@ -1,7 +1,7 @@
 -- The number that the code gives a line is the number of the verdict. Assumes nothing.
 use mathlib.Core.Path.{◌≡◌, refl, sym, ap, ap₂, ◌∙◌}
 use mathlib.Core.Bool.{Bool, true, false, cond, ◌&&◌, ◌||◌, not}
-use mathlib.Core.List.{List, [], ◌∷◌, ◌++◌}
+use mathlib.Core.List.{List, [], ◌∷◌}
 use Prim.Native.Nat.{ℕ, zero, suc, ◌+◌, ◌≤◌, ◌<◌}
 use native.Mathlib.Nat.{lt_of_not-le}
 use native.Mathlib.Decide.{dec_le}
@@ -20,6 +20,7 @@ use Rattle.sheet.specs.Refusals.{any_of, sum_of, from, to, output_in, taken_in, 
 use Rattle.sheet.specs.Refusals.{process_not_next, missing_process, ends_not_allowed, no_standard_value, second_of_pair, output_exceeded}
 use Rattle.sheet.specs.Verdict.{Verdict, Check, check, accepted, refused, first_of, number_of, field_checks, shape_checks, order_checks, line_checks, All}
 use Rattle.sheet.proofs.Table.{kind_is, rules_fit, FitsWords}
+use Rattle.sheet.proofs.First.{all_join}
 use Rattle.sheet.proofs.Held.{Held, GoodHeld}
 use Rattle.checks.specs.Steps.{or_else, words_number}
 use Rattle.checks.specs.declared.above.Above.{Above}
@@ -150,10 +151,6 @@ module _ (limits : Limits) (above : List Record) (r : Record) (a : Above) (said 
 record At (line : ℕ) (c : Check) : Type 0 where
   numbered : c.number ≡ 0 → ⊥
   lined : c.line ≡ line
-
-all_join : {A : Type 0} (P : A → Type 0) (xs ys : List A) → All P xs → All P ys → All P (xs ++ ys)
-all_join P [] ys a b = b
-all_join P (x ∷ xs) ys a b = (a.0, all_join P xs ys a.1 b)
 
 -- the verdict of checks of one line, by its number
 abbrev on_line : (line : ℕ) → Verdict → Verdict

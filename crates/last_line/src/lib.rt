@@ -32,7 +32,6 @@ fn signed_figure(total: SignedGrams) -> Figure
 }
 
 // Writes the last line.
-#[tactic(auto, unfolding(crate::specs::Totals::total_fields, report::specs::Spelling::total_line))]
 pub fn put_totals(space: &mut [u8], at: usize, last: LastLine) -> usize
     requires { at + (length (tailed (total_fields last)) + 2) ≤ length space.old }
     ensures { Put space.old at (line 84 (total_fields last)) space.new result }

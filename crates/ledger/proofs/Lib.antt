@@ -2,5 +2,4 @@
 pub mod Sizes
 pub mod Bounds
 pub mod Places
-pub mod Columns
 pub mod Inside

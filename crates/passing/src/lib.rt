@@ -7,7 +7,7 @@ ghost use Rattle.goods.specs.Settling.{pairs, CanPassOn, PassedOn};
 
 use goods::{BothGramsByProcess, KilosByPair, SIZE};
 use quantity::{Grams, Kilos};
-use shares::{BothGrams, Share, portions};
+use shares::{BothGrams, portions};
 
 // Process `from` passes portions of its pools on to its takers, by rising number; the result is what is left of its own. In document 01's terms
 // `own` has P, `output` is A, `taken` C(k−1), `through` C(k), and `given` has ⌊P × C(k−1)/A⌋.
@@ -32,18 +32,11 @@ pub fn pass_on(
     let mut taken = Kilos::default();
     let mut given = BothGrams::default();
     for to in from + 1..=count {
-        let kg = kilos[from * SIZE + to];
+        let kg = Kilos(kilos[from * SIZE + to]);
         // Of no kilograms the portions are 0 either way.
-        if kg > 0 {
-            let through = Kilos(taken.0 + kg);
-            let taker = portions(
-                own,
-                given,
-                Share {
-                    part: through,
-                    whole: output,
-                },
-            );
+        if kg.0 > 0 {
+            let through = Kilos(taken.0 + kg.0);
+            let taker = portions(own, given, through, output);
             pools.direct.0[to] += taker.direct.0;
             pools.indirect.0[to] += taker.indirect.0;
             taken = through;

@@ -1,4 +1,4 @@
-// Document 01: grams of carbon dioxide, kilograms of goods, megajoules and kilowatt-hours are four kinds of quantity.
+// Document 01's three kinds of quantity, grams of carbon dioxide, kilograms of goods and megajoules, and the kilowatt-hours of its E lines.
 #![tactic(auto)]
 
 pub mod limits;

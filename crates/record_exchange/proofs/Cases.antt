@@ -27,7 +27,7 @@ use Rattle.lent.specs.Lent.{all_zero, record_lent, records_lent_to, records_lent
 use Rattle.record_exchange.specs.Exchange.{exchange_checks, sheet_written, records_read}
 use Rattle.record_exchange.specs.Cases.{written, given}
 
-pub cases-hold :
+pub examples_hold :
     (map (λ w. sheet_lent w.words) written ≡ map (λ w. bytes w.sheet) written)
     × (map (λ w. sheet_written w.words (bytes w.space)) written ≡ map (λ w. w.outcome) written)
     × (map (λ g. records_read (bytes g.sheet) g.list) given ≡ map (λ g. g.outcome) given)
@@ -42,4 +42,4 @@ unfolding written given
     kilos_of process_count output kilos_between direct_pool indirect_pool direct_left indirect_left total_left entered total_raised uncredited rows_to reckoning
     rows_grams any_from figure_too_large reckoner_checks
     all_zero record_lent records_lent_to records_lent spell_all sheet_lent record_words words_of exchange_checks sheet_written records_read
-cases-hold = (refl, refl, refl)
+examples_hold = (refl, refl, refl)

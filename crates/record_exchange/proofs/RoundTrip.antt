@@ -3,7 +3,7 @@
 use mathlib.Core.Path.{◌≡◌, refl, sym, ap, ap₂, ◌∙◌}
 use mathlib.Core.Logic.{◌↔◌}
 use mathlib.Core.Bool.{true}
-use mathlib.Core.List.{List, ◌∷◌, ◌++◌}
+use mathlib.Core.List.{List, ◌++◌}
 use Prim.Native.Nat.{ℕ, zero, suc, ◌*◌, ◌/◌, ◌≤◌, ◌<◌}
 use native.Mathlib.Decide.{dec_le}
 use native.Mathlib.Nat.{lt_of_not-le}
@@ -14,11 +14,11 @@ use Rattle.quantity.specs.Limits.{limits}
 use Rattle.lines.specs.Lines.{line, lines_of, line_bytes}
 use Rattle.lines.specs.Records.{record_of, records_of}
 use Rattle.sheet.specs.Verdict.{Verdict, accepted, refused, first_of, sheet_checks}
-use Rattle.sheet.proofs.First.{all_append, refused_iff, first_rest, first_here}
+use Rattle.sheet.proofs.First.{never_by, first_rest, first_here}
 use Rattle.attribution.specs.Verdict.{reckoner_checks}
 use Rattle.attribution.proofs.RowFifteen.{fifteen_never_given}
 use Rattle.report.specs.Outcome.{Outcome, outcome_of}
-use Rattle.report.proofs.Sixteen.{NotSixteen, rows_another}
+use Rattle.report.proofs.Sixteen.{rows_another}
 use Rattle.lent.specs.Lent.{RECORD, record_lent, record_count, records_lent, spell_lent, spell_all, sheet_lent, words_of, filled_up}
 use Rattle.lent.proofs.Spelt.{lent_read, line_lent, lines_lent, records_lent_lem, records_count, kth_line}
 use Rattle.lent.proofs.ReadBack.{all_long, records_keep, written_again}
@@ -30,10 +30,7 @@ use Rattle.record_exchange.specs.Exchange.{judged, exchange_checks, sheet_writte
 module _ (sheet : List ℕ) where
   -- no row 1 to 15 has the number 16
   not_sixteen : (k : ℕ) → judged sheet ≡ refused 16 k → ⊥
-  not_sixteen k r =
-      let f = (refused_iff (reckoner_checks limits sheet) 16 k).0 r in
-      let another = rw f.split at (rows_another limits sheet) in
-      (all_append NotSixteen f.before (f.found ∷ f.after) another).1.0 f.its_number
+  not_sixteen = never_by 16 (reckoner_checks limits sheet) (rows_another limits sheet)
 
   module _ (a : judged sheet ≡ accepted) where
     -- rows 1 to 14 alone

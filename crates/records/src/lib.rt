@@ -95,7 +95,7 @@ impl Iterator for Lines<'_> {
             return None;
         }
         let l = read_line(self.sheet, self.at);
-        self.at = l.end.saturating_add(1);
+        self.at = l.end + 1;
         Some(l)
     }
 }

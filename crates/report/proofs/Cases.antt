@@ -1,8 +1,7 @@
 -- The worked examples of specs/Cases: one theorem that the checker computes over each table. Assumes nothing.
-use mathlib.Core.Bool.{Bool, true, false}
 use mathlib.Core.List.{map}
-use mathlib.Core.Option.{Option, none, some}
 use mathlib.Core.Path.{◌≡◌, refl}
+use Rattle.std.specs.Prelude.{is_some}
 use Rattle.quantity.specs.Rounding.{round}
 use Rattle.quantity.specs.Streams.{combustion_grams, process_grams, carbon_grams, stream_grams, fossil_grams}
 use Rattle.quantity.specs.Standard.{fuels, carbonates, fuel_of, carbonate_of}
@@ -24,7 +23,7 @@ use Rattle.attribution.specs.Attribution.{electricity_out, bought_direct, bought
 use Rattle.attribution.specs.Reckoning.{kilos_of, process_count, output, kilos_between, direct_pool, indirect_pool, direct_left}
 use Rattle.attribution.specs.Reckoning.{indirect_left, total_left, entered, total_raised, uncredited, rows_to, reckoning}
 use Rattle.attribution.specs.Verdict.{rows_grams, any_from, figure_too_large, reckoner_checks}
-use Rattle.report.specs.Report.{Report, specific, report_of}
+use Rattle.report.specs.Report.{specific, report_of}
 use Rattle.report.specs.Spelling.{three_digits, spell_figure, spell_figures, spell_lines, row_line, total_line, report_bytes}
 use Rattle.report.specs.Reading.{is_signed, is_specific, pass, is_row, is_totals, read_lines, read_report}
 use Rattle.report.specs.Cases.{printed, given, readings}
@@ -59,10 +58,6 @@ unfolding given all_checks verdict outcome
     specific report_of three_digits spell_figure spell_figures spell_lines row_line total_line report_bytes sheet_report carbon
 given_hold = refl
 
-abbrev is_read : Option Report → Bool
-is_read none = false
-is_read (some r) = true
-
-pub readings_hold : map (λ e. is_read (read_report (bytes e.text))) readings ≡ map (λ e. e.is_report) readings
+pub readings_hold : map (λ e. is_some (read_report (bytes e.text))) readings ≡ map (λ e. e.is_report) readings
 unfolding readings all_digits is_number value_from lines_of fields_of is_signed is_specific pass is_row is_totals read_lines read_report
 readings_hold = refl

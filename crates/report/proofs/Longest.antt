@@ -20,7 +20,7 @@ use Rattle.sheet.specs.declared.Kind.TheVariants.{Process}
 use Rattle.sheet.specs.Refusals.{sum_of}
 use Rattle.sheet.specs.Verdict.{line_checks, lines_checks, sheet_checks}
 use Rattle.sheet.specs.Verdict.{All, Passes}
-use Rattle.sheet.proofs.First.{all_append, passes_accepted}
+use Rattle.sheet.proofs.First.{all_append, all_join, passes_accepted}
 use Rattle.sheet.proofs.Held.{Held, held_none, held_next, processes_after}
 use Rattle.attribution.specs.Reckoning.{Row, Totals, process_count, row_of, rows_to, reckoning}
 use Rattle.attribution.specs.Verdict.{row_grams, total_grams, rows_grams, any_from, figure_too_large, reckoner_checks}
@@ -28,7 +28,7 @@ use Rattle.report.specs.Report.{specific, report_row, report_of}
 use Rattle.report.specs.Spelling.{Figure, whole, thousandths, signed, three_digits, spell_figure, spell_figures}
 use Rattle.report.specs.Spelling.{ReportLine, spell_lines, row_line, total_line, report_bytes}
 use Rattle.report.specs.Outcome.{longest, sheet_report, outcome}
-use Rattle.report.proofs.Sixteen.{all_join, short_only}
+use Rattle.report.proofs.Sixteen.{short_only}
 
 -- ---- a field
 

@@ -3,11 +3,11 @@ use mathlib.Core.Path.{◌≡◌, refl, sym, ap, subst, ◌∙◌}
 use mathlib.Core.Logic.{◌↔◌}
 use mathlib.Core.Bool.{Bool, true, false, cond}
 use mathlib.Core.List.{List, [], ◌∷◌, ◌++◌, map, map-append}
-use mathlib.Core.Option
-use mathlib.Core.Option.{none, some, some-injective, none-ne-some, map-eq-some_iff}
 use Prim.Native.Nat.{ℕ, zero, suc, ◌+◌}
 use native.Mathlib.Omega.{arith}
 use lib.ListN.{length, length-append, length-map}
+use Rattle.std.specs.Prelude.{Option, Some, None, option_map}
+use Rattle.std.proofs.lemmas.Option.{none-some, same_Some}
 use Rattle.lines.specs.Lines.{Line, lines_of}
 use Rattle.lines.specs.Records.{Record, records_of}
 use Rattle.lines.proofs.OneRecord.{join_lines, join_lines_lem}
@@ -34,23 +34,27 @@ line_before : (x : Line) (xs : List Line) (l : ReportLine) (rest : List ReportLi
 unfolding join_lines
 line_before x xs l rest h e = rw (h.0, h.1, e) (sym (line_joined l rest))
 
-lines_spelt : (n : ℕ) (ls : List Line) (r : Report) → read_lines n ls ≡ some r → Spelt n ls r
+map_some : (f : Report → Report) (o : Option Report) (r : Report) → option_map f o ≡ Some r → (q : Report) × (o ≡ Some q) × (f q ≡ r)
+map_some f None r e = absurd (none-some r e)
+map_some f (Some q) r e = (q, refl, same_Some (f q) r e)
+
+lines_spelt : (n : ℕ) (ls : List Line) (r : Report) → read_lines n ls ≡ Some r → Spelt n ls r
 unfolding read_lines NumberedFrom join_lines spell_lines
-lines_spelt n [] r e = absurd (none-ne-some r e)
+lines_spelt n [] r e = absurd (none-some r e)
 lines_spelt n (l ∷ []) r e = go (is_totals l) refl e
   where
-    go : (t : Bool) → is_totals l ≡ t → cond t (some (record { rows = []; totals = totals_in l })) none ≡ some r → Spelt n (l ∷ []) r
-    go false h e = absurd (none-ne-some r e)
+    go : (t : Bool) → is_totals l ≡ t → cond t (Some (record { rows = []; totals = totals_in l })) None ≡ Some r → Spelt n (l ∷ []) r
+    go false h e = absurd (none-some r e)
     go true h e =
-        subst (Spelt n (l ∷ [])) (some-injective (record { rows = []; totals = totals_in l }) r e)
+        subst (Spelt n (l ∷ [])) (same_Some (record { rows = []; totals = totals_in l }) r e)
         (line_before l [] (total_line (totals_in l)) [] (totals_spelt l h) refl, tt)
 lines_spelt n (l ∷ next ∷ ls) r e = go (is_row n l) refl e (lines_spelt (suc n) (next ∷ ls))
   where
-    go : (t : Bool) → is_row n l ≡ t → cond t (Option.map (row_before (row_in l)) (read_lines (suc n) (next ∷ ls))) none ≡ some r
-        → ((q : Report) → read_lines (suc n) (next ∷ ls) ≡ some q → Spelt (suc n) (next ∷ ls) q) → Spelt n (l ∷ next ∷ ls) r
-    go false h e ih = absurd (none-ne-some r e)
+    go : (t : Bool) → is_row n l ≡ t → cond t (option_map (row_before (row_in l)) (read_lines (suc n) (next ∷ ls))) None ≡ Some r
+        → ((q : Report) → read_lines (suc n) (next ∷ ls) ≡ Some q → Spelt (suc n) (next ∷ ls) q) → Spelt n (l ∷ next ∷ ls) r
+    go false h e ih = absurd (none-some r e)
     go true h e ih =
-        let m = (map-eq-some_iff (row_before (row_in l)) (read_lines (suc n) (next ∷ ls))).0 e in
+        let m = map_some (row_before (row_in l)) (read_lines (suc n) (next ∷ ls)) r e in
         let after = ih m.0 m.1 in
         subst (Spelt n (l ∷ next ∷ ls)) m.2
         (line_before l (next ∷ ls) (row_line (row_in l)) (lines_in m.0) (row_spelt n l h) after.0, (row_process n l h, after.1))
@@ -61,7 +65,7 @@ abbrev report_with : List ReportRow → Totals → Report
 report_with rows totals = record { rows = rows; totals = totals }
 
 row_first : (n : ℕ) (row : ReportRow) (next : Line) (ls : List Line) (r : Report) → row.process ≡ n
-    → read_lines (suc n) (next ∷ ls) ≡ some r → read_lines n (spelt (row_line row) ∷ next ∷ ls) ≡ some (row_before row r)
+    → read_lines (suc n) (next ∷ ls) ≡ Some r → read_lines n (spelt (row_line row) ∷ next ∷ ls) ≡ Some (row_before row r)
 unfolding read_lines
 row_first n row next ls r h e = rw (row_passes n row h, e, row_back row)
 
@@ -75,7 +79,7 @@ module _ (totals : Totals) where
       ∙ ap (λ (ls : List Line). spelt (row_line row) ∷ ls) (lines_back rows)
 
   lines_read : (n : ℕ) (rows : List ReportRow) → NumberedFrom n rows
-      → read_lines n (map spelt (lines_in (report_with rows totals))) ≡ some (report_with rows totals)
+      → read_lines n (map spelt (lines_in (report_with rows totals))) ≡ Some (report_with rows totals)
   unfolding read_lines NumberedFrom
   lines_read n [] h = rw (totals_pass totals, totals_back totals)
   lines_read n (row ∷ []) h =
@@ -86,7 +90,7 @@ module _ (totals : Totals) where
 
 -- ---- the theorem
 
-pub read_iff_spelt : (bytes : List ℕ) (r : Report) → (read_report bytes ≡ some r) ↔ ((bytes ≡ report_bytes r) × Numbered r)
+pub read_iff_spelt : (bytes : List ℕ) (r : Report) → (read_report bytes ≡ Some r) ↔ ((bytes ≡ report_bytes r) × Numbered r)
 unfolding read_report report_bytes
 read_iff_spelt bytes r = (
   (λ e. let s = lines_spelt 1 (lines_of bytes) r e in (sym (join_lines_lem bytes) ∙ s.0, s.1)),
@@ -124,7 +128,7 @@ module _ (records : List Record) where
 
 -- bytes are read as the values of a sheet's report exactly when they are its bytes
 pub sheet_report_read : (sheet bytes : List ℕ)
-    → (read_report bytes ≡ some (report_of (reckoning (records_of sheet)))) ↔ (bytes ≡ sheet_report sheet)
+    → (read_report bytes ≡ Some (report_of (reckoning (records_of sheet)))) ↔ (bytes ≡ sheet_report sheet)
 unfolding sheet_report
 sheet_report_read sheet bytes =
     let r : Report = report_of (reckoning (records_of sheet)) in
@@ -134,8 +138,8 @@ sheet_report_read sheet bytes =
 -- numbered reports of the same bytes have the same values
 pub one_report : (a b : Report) → Numbered a → Numbered b → report_bytes a ≡ report_bytes b → a ≡ b
 one_report a b p q e =
-    some-injective a b (sym ((read_iff_spelt (report_bytes a) a).1 (refl, p)) ∙ (read_iff_spelt (report_bytes a) b).1 (e, q))
+    same_Some a b (sym ((read_iff_spelt (report_bytes a) a).1 (refl, p)) ∙ (read_iff_spelt (report_bytes a) b).1 (e, q))
 
 -- bytes that are read as the same report are the same bytes
-pub one_reading : (x y : List ℕ) (r : Report) → read_report x ≡ some r → read_report y ≡ some r → x ≡ y
+pub one_reading : (x y : List ℕ) (r : Report) → read_report x ≡ Some r → read_report y ≡ Some r → x ≡ y
 one_reading x y r p q = ((read_iff_spelt x r).0 p).0 ∙ sym ((read_iff_spelt y r).0 q).0

@@ -2,58 +2,26 @@
 use mathlib.Core.Path.{◌≡◌, refl}
 use mathlib.Core.Bool.{Bool, true, false, cond}
 use mathlib.Core.List.{List, [], ◌∷◌, ◌++◌}
-use Prim.Native.Nat.{ℕ, suc, ◌<◌}
+use Prim.Native.Nat.{ℕ, ◌<◌}
 use native.Mathlib.Omega.{arith}
 use borrow.Author.Tests.{ltb-true}
 use lib.ListN.{length}
 use Rattle.quantity.specs.Limits.{Limits}
-use Rattle.lines.specs.Lines.{Line, lines_of}
-use Rattle.lines.specs.Records.{Field, Record, record_of}
-use Rattle.sheet.specs.Kinds.{Rule, rules_of, sheet_table}
-use Rattle.sheet.specs.Verdict.{Check, check, Verdict, accepted, refused, first_of, number_of, field_checks, shape_checks, line_checks, lines_checks, sheet_checks}
-use Rattle.sheet.specs.Verdict.{All, Passes}
+use Rattle.sheet.specs.Verdict.{Check, check, Verdict, accepted, refused, first_of, number_of, sheet_checks, All, Passes}
+use Rattle.sheet.proofs.First.{all_join}
+use Rattle.sheet.proofs.Numbers.{sheet_another}
 use Rattle.attribution.specs.Verdict.{reckoner_checks}
 use Rattle.report.specs.Outcome.{sheet_report, space_too_short, all_checks, verdict, outcome_of, outcome}
 
-pub all_join : {A : Type 0} (P : A → Type 0) (xs ys : List A) → All P xs → All P ys → All P (xs ++ ys)
-all_join P [] ys p q = q
-all_join P (x ∷ xs) ys p q = (p.0, all_join P xs ys p.1 q)
-
-abbrev pub NotSixteen : Check → Type 0
-NotSixteen c = c.number ≡ 16 → ⊥
-
-fields_another : (k : ℕ) (rules : List Rule) (fields : List Field) → All NotSixteen (field_checks k rules fields)
-unfolding field_checks
-fields_another k [] fields = tt
-fields_another k (rule ∷ rules) [] = tt
-fields_another k (rule ∷ rules) (f ∷ fs) = (λ e. omega arith, (λ e. omega arith, fields_another k rules fs))
-
-module _ (limits : Limits) where
-  line_another : (above : List Record) (l : Line) → All NotSixteen (line_checks limits above l)
-  unfolding line_checks shape_checks
-  line_another above l =
-      let k : ℕ = suc (length above) in (
-        λ e. omega arith,
-        all_join NotSixteen (shape_checks (sheet_table limits) k l) _
-            (λ e. omega arith, (λ e. omega arith, (λ e. omega arith, fields_another k (rules_of limits (record_of l)) (record_of l).said)))
-            (λ e. omega arith, (λ e. omega arith, (λ e. omega arith, (λ e. omega arith, (λ e. omega arith, (λ e. omega arith, tt)))))),
-      )
-
-  lines_another : (above : List Record) (ls : List Line) → All NotSixteen (lines_checks limits above ls)
-  unfolding lines_checks
-  lines_another above [] = tt
-  lines_another above (l ∷ ls) =
-      all_join NotSixteen (line_checks limits above l) (lines_checks limits (record_of l ∷ above) ls)
-      (line_another above l) (lines_another (record_of l ∷ above) ls)
-
-  pub rows_another : (sheet : List ℕ) → All NotSixteen (reckoner_checks limits sheet)
-  unfolding reckoner_checks sheet_checks
-  rows_another sheet =
-      all_join NotSixteen (sheet_checks limits sheet) _
-      (λ e. omega arith, (λ e. omega arith, lines_another [] (lines_of sheet))) (λ e. omega arith, tt)
+-- no row 1 to 15 has the number 16
+pub rows_another : (limits : Limits) (sheet : List ℕ) → All (λ c. c.number ≡ 16 → ⊥) (reckoner_checks limits sheet)
+unfolding reckoner_checks
+rows_another limits sheet =
+    all_join (λ c. c.number ≡ 16 → ⊥) (sheet_checks limits sheet) _ (sheet_another 16 (omega arith) limits sheet) (λ e. omega arith, tt)
 
 -- a last row 16 gives its number only where it applies and no row before it does
-last_only : (cs : List Check) (t : Bool) → All NotSixteen cs → number_of (first_of (cs ++ (check 16 0 t ∷ []))) ≡ 16 → (t ≡ true) × All Passes cs
+last_only : (cs : List Check) (t : Bool) → All (λ c. c.number ≡ 16 → ⊥) cs → number_of (first_of (cs ++ (check 16 0 t ∷ []))) ≡ 16
+    → (t ≡ true) × All Passes cs
 unfolding first_of
 last_only [] true another e = (refl, tt)
 last_only [] false another e = absurd (omega arith)

@@ -1,6 +1,5 @@
 -- For the reader. Document 01, "The report": bytes read as a report, which accepts one spelling alone.
-use Rattle.std.specs.Prelude.{◌≡◌, Bool, true, false, cond, ◌&&◌, ◌||◌, not, List, [], ◌∷◌, ℕ, suc, ◌+◌, ◌-◌, ◌*◌, eqb, ℤ, pos, neg_ℤ, length, get_or, take, drop}
-use Rattle.std.proofs.Math.Option.{Option, none, some, map}
+use Rattle.std.specs.Prelude.{◌≡◌, Bool, true, false, cond, ◌&&◌, ◌||◌, not, List, [], ◌∷◌, Option, Some, None, option_map, ℕ, suc, ◌+◌, ◌-◌, ◌*◌, eqb, ℤ, pos, neg_ℤ, length, get_or, take, drop}
 use Rattle.decimal.specs.Number.{all_digits, is_number, value}
 use Rattle.lines.specs.Lines.{Line, lines_of, fields_of}
 use Rattle.lines.specs.Records.{letter_in}
@@ -101,9 +100,9 @@ row_before row r = record { rows = row ∷ r.rows; totals = r.totals }
 
 -- the last line has the totals, and each line before it is a row: the first that of process n, the next that of process n + 1, and so on
 unfoldable pub read_lines : (n : ℕ) → List Line → Option Report
-read_lines n [] = none
-read_lines n (l ∷ []) = cond (is_totals l) (some (record { rows = []; totals = totals_in l })) none
-read_lines n (l ∷ next ∷ ls) = cond (is_row n l) (map (row_before (row_in l)) (read_lines (suc n) (next ∷ ls))) none
+read_lines n [] = None
+read_lines n (l ∷ []) = cond (is_totals l) (Some (record { rows = []; totals = totals_in l })) None
+read_lines n (l ∷ next ∷ ls) = cond (is_row n l) (option_map (row_before (row_in l)) (read_lines (suc n) (next ∷ ls))) None
 
 unfoldable pub read_report : (bytes : List ℕ) → Option Report
 read_report bytes = read_lines 1 (lines_of bytes)

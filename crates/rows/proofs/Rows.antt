@@ -1,6 +1,6 @@
 -- The bytes of the report line by line, and how long they are. Assumes nothing.
 use mathlib.Core.Path.{◌≡◌, refl, sym, ap, ◌∙◌}
-use mathlib.Core.List.{List, [], ◌∷◌, ◌++◌, map, append_assoc}
+use mathlib.Core.List.{List, [], ◌∷◌, ◌++◌, map, map-append, append_assoc}
 use Prim.Native.Nat.{ℕ, zero, suc, ◌+◌, ◌-◌, ◌/◌, ◌%◌, ◌≤◌, ◌<◌}
 use native.Mathlib.Numerals.{add-one}
 use native.Mathlib.Decide.{dec_le}
@@ -47,10 +47,6 @@ lines_append (l ∷ a) b =
 line_is : (letter : ℕ) (fs : List Figure) → spell_lines (report_line letter fs ∷ []) ≡ line letter (map held fs)
 unfolding spell_lines line
 line_is letter fs = rw (tailed_held fs)
-
-map-append : {A B : Type 0} (f : A → B) (a b : List A) → map f (a ++ b) ≡ map f a ++ map f b
-map-append f [] b = refl
-map-append f (x ∷ a) b = ap (λ (l : List _). f x ∷ l) (map-append f a b)
 
 row_line_lem : (r : Reckoning) (k : ℕ) → spell_lines (row_line (report_row (row_held r k)) ∷ []) ≡ line 82 (row_fields r k)
 unfolding fields_of row_line

@@ -11,6 +11,10 @@ pub all_append : {A : Type 0} (P : A → Type 0) (xs ys : List A) → All P (xs 
 all_append P [] ys h = (tt, h)
 all_append P (x ∷ xs) ys h = let r = all_append P xs ys h.1 in ((h.0, r.0), r.1)
 
+pub all_join : {A : Type 0} (P : A → Type 0) (xs ys : List A) → All P xs → All P ys → All P (xs ++ ys)
+all_join P [] ys p q = q
+all_join P (x ∷ xs) ys p q = (p.0, all_join P xs ys p.1 q)
+
 not_accepted : (number line : ℕ) → refused number line ≡ accepted → ⊥
 not_accepted number line e = let z : ◌≡◌ {A = ℕ} 0 1 = cc in omega arith
 
@@ -66,6 +70,12 @@ first_refused cs number line f = rw (f.split, first_split f.before f.found f.aft
 
 pub refused_iff : (cs : List Check) (number line : ℕ) → (first_of cs ≡ refused number line) ↔ First cs number line
 refused_iff cs number line = (refused_first cs number line, first_refused cs number line)
+
+-- checks of which none has the number k do not refuse by it
+pub never_by : (k : ℕ) (cs : List Check) → All (λ c. c.number ≡ k → ⊥) cs → (line : ℕ) → first_of cs ≡ refused k line → ⊥
+never_by k cs another line r =
+    let f = refused_first cs k line r in
+    (all_append (λ c. c.number ≡ k → ⊥) f.before (f.found ∷ f.after) (rw f.split at another)).1.0 f.its_number
 
 -- a list of checks accepts, or refuses by its first row that applies
 pub decided : (cs : List Check) → All Passes cs ⊎ ((number line : ℕ) × First cs number line)

@@ -28,14 +28,10 @@ unfoldable pub first_of : List Check → Verdict
 first_of [] = accepted
 first_of (c ∷ cs) = cond c.applies (refused c.number c.line) (first_of cs)
 
--- an accepted sheet gives number 0, line 0
+-- an accepted sheet gives number 0
 abbrev pub number_of : Verdict → ℕ
 number_of accepted = 0
 number_of (refused number line) = number
-
-abbrev pub line_of : Verdict → ℕ
-line_of accepted = 0
-line_of (refused number line) = line
 
 -- ---- what it means that a row is the first that applies
 

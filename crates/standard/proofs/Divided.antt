@@ -13,18 +13,18 @@ abbrev pub divided : (unit : ℕ) (printed : List ℕ) → List ℕ
 divided unit printed = map (λ (x : ℕ). x / unit) printed
 
 -- ---- each printed figure is a whole number of units: one computation over each table
-abbrev pub Whole : (unit : ℕ) (printed : List ℕ) → Type 0
+abbrev Whole : (unit : ℕ) (printed : List ℕ) → Type 0
 Whole unit printed = map (λ (x : ℕ). x * unit) (divided unit printed) ≡ printed
 
-pub net_calorific_values_whole : Whole 10 (map (λ (x : Fuel). x.net_calorific_value) fuels)
+pub net_calorific_values_whole : map (λ (x : Fuel). x.net_calorific_value / 10 * 10) fuels ≡ map (λ (x : Fuel). x.net_calorific_value) fuels
 unfolding fuels
 net_calorific_values_whole = refl
 
-pub emission_factors_whole : Whole 100 (map (λ (x : Fuel). x.emission_factor) fuels)
+pub emission_factors_whole : map (λ (x : Fuel). x.emission_factor / 100 * 100) fuels ≡ map (λ (x : Fuel). x.emission_factor) fuels
 unfolding fuels
 emission_factors_whole = refl
 
-pub carbonates_whole : Whole 1000 carbonates
+pub carbonates_whole : map (λ (x : ℕ). x / 1000 * 1000) carbonates ≡ carbonates
 unfolding carbonates
 carbonates_whole = refl
 
@@ -56,7 +56,7 @@ unfolding carbonates
 carbonate_is = look_up 1000 carbonate_factors carbonates_whole
 
 -- ---- what stands in the divided table for a code, times the unit, is the code's printed value
-abbrev pub Found : (unit : ℕ) (printed : List ℕ) (value : ℕ → ℕ) (most : ℕ) → Type 0
+abbrev Found : (unit : ℕ) (printed : List ℕ) (value : ℕ → ℕ) (most : ℕ) → Type 0
 Found unit printed value most = (code : ℕ) → (code ≡ 0 → ⊥)
     → (get_or (divided unit printed) (code - 1) 0 * unit ≡ value code) × (get_or (divided unit printed) (code - 1) 0 * unit ≤ most)
 
@@ -68,14 +68,20 @@ found {printed} {value} unit most t w h code n =
     ∙ (ap (λ (l : List ℕ). get_or l (code - 1) (0 * unit)) w ∙ ap (get_or printed (code - 1)) (zero-mul unit)) in
     rw each (at_found t most h code n)
 
-pub net_calorific_values_found : Found 10 (map (λ (x : Fuel). x.net_calorific_value) fuels) (λ code. (fuel_of code).net_calorific_value) 200000
+pub net_calorific_values_found : (code : ℕ) → (code ≡ 0 → ⊥)
+    → (get_or (map (λ (x : Fuel). x.net_calorific_value / 10) fuels) (code - 1) 0 * 10 ≡ (fuel_of code).net_calorific_value)
+    × (get_or (map (λ (x : Fuel). x.net_calorific_value / 10) fuels) (code - 1) 0 * 10 ≤ 200000)
 unfolding fuels
 net_calorific_values_found = found 10 200000 net_calorific_values net_calorific_values_whole (omega arith)
 
-pub emission_factors_found : Found 100 (map (λ (x : Fuel). x.emission_factor) fuels) (λ code. (fuel_of code).emission_factor) 400000
+pub emission_factors_found : (code : ℕ) → (code ≡ 0 → ⊥)
+    → (get_or (map (λ (x : Fuel). x.emission_factor / 100) fuels) (code - 1) 0 * 100 ≡ (fuel_of code).emission_factor)
+    × (get_or (map (λ (x : Fuel). x.emission_factor / 100) fuels) (code - 1) 0 * 100 ≤ 400000)
 unfolding fuels
 emission_factors_found = found 100 400000 emission_factors emission_factors_whole (omega arith)
 
-pub carbonates_found : Found 1000 carbonates carbonate_of 4000000
+pub carbonates_found : (code : ℕ) → (code ≡ 0 → ⊥)
+    → (get_or (map (λ (x : ℕ). x / 1000) carbonates) (code - 1) 0 * 1000 ≡ carbonate_of code)
+    × (get_or (map (λ (x : ℕ). x / 1000) carbonates) (code - 1) 0 * 1000 ≤ 4000000)
 unfolding carbonates
 carbonates_found = found 1000 4000000 carbonate_factors carbonates_whole (omega arith)

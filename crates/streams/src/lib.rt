@@ -41,6 +41,7 @@ fn carbon(mass: Kilos, a: u64) -> LineGrams
     requires { CarbonRange mass.0 a }
     ensures { result.grams.0 ≡ carbon_grams mass.0 a }
 {
+    // grams of carbon, which are none of the kinds of quantity
     let t1 = grams::rounded::<1000>(mass.0, a);
     LineGrams {
         grams: Grams(grams::rounded::<1000>(t1, 3664)),
@@ -61,8 +62,7 @@ fn before_biomass(method: Method, mass: Kilos, a: u64, b: u64, c: u64) -> LineGr
 }
 
 // A source stream: the fossil share of its grams, counted minus for carbon going out.
-#[tactic(auto, unfolding(quantity::specs::Streams::stream_grams))]
-pub fn of_method(method: Method, mass: Kilos, a: u64, b: u64, c: u64, d: u64) -> SignedGrams
+pub fn stream(method: Method, mass: Kilos, a: u64, b: u64, c: u64, d: u64) -> SignedGrams
     requires { StreamRange (method_number method) mass.0 a b c d }
     ensures result_value { result.0 ≡ stream_grams (method_number method) mass.0 a b c d }
     ensures bounded { nat_abs result.0 ≤ most_grams }
@@ -73,16 +73,4 @@ pub fn of_method(method: Method, mass: Kilos, a: u64, b: u64, c: u64, d: u64) ->
         Method::Combustion | Method::ProcessEmission | Method::CarbonIn => fossil.plus(),
         Method::CarbonOut => fossil.minus(),
     }
-}
-
-// A source stream by the number of its method.
-// It takes any number: an enum here would ask more of callers.
-pub fn stream(method: u64, mass: Kilos, a: u64, b: u64, c: u64, d: u64) -> SignedGrams
-    requires { StreamRange method mass.0 a b c d }
-    ensures result_value { result.0 ≡ stream_grams method mass.0 a b c d }
-    ensures bounded { nat_abs result.0 ≤ most_grams }
-{
-    // A number that stands for no method counts as carbon going in, as the definition says.
-    let method = Method::try_from(method).unwrap_or(Method::CarbonIn);
-    of_method(method, mass, a, b, c, d)
 }

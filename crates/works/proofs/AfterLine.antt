@@ -5,7 +5,7 @@ use mathlib.Core.List.{List}
 use Prim.Native.Nat.{ℕ, ◌+◌, ◌≤◌, ◌<◌}
 use native.Mathlib.Omega.{arith}
 use lib.Dec.{eqb}
-use lib.ListN.{length, get_or}
+use lib.ListN.{get_or}
 use Rattle.sheet.specs.Kinds.{letter, rules}
 use Rattle.sheet.specs.declared.Kind.TheVariants.{Process, OwnGood}
 use Rattle.lines.specs.declared.LineRead.{LineRead}

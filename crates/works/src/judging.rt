@@ -2,7 +2,7 @@
 ghost use Rattle.std.specs.Prelude.{◌≡◌};
 ghost use Rattle.quantity.specs.Limits.{limits};
 ghost use Rattle.checks.specs.Numbers.{number_judged};
-ghost use Rattle.works.specs.Works.{of_process, of_pair, above_at, state_number};
+ghost use Rattle.works.specs.Works.{of_process, of_pair, above_at, lacks_lf, state_number};
 
 use super::Noted;
 use checks::above::Above;
@@ -34,6 +34,13 @@ fn of_pair(kilos: &KilosByPair, from: u64, to: u64) -> Kilos
     } else {
         Kilos(0)
     }
+}
+
+// Row 3 of a line that ends there, in a sheet of `size` bytes.
+fn lacks_lf(end: usize, size: Option<usize>) -> bool
+    ensures { result ≡ lacks_lf end size }
+{
+    Some(end) == size
 }
 
 impl Noted {
@@ -76,7 +83,7 @@ impl Noted {
         if LINES <= self.lines {
             return Err(Refusal::TooManyLines);
         }
-        if Some(l.end) == size {
+        if lacks_lf(l.end, size) {
             return Err(Refusal::LacksLF);
         }
         line_refusal(l, self.above(kilos, l))

@@ -13,7 +13,7 @@ use Rattle.entries.specs.Read.{LineKeeps}
 use Rattle.attribution.proofs.EveryKind.{small_entry}
 use Rattle.gathering.proofs.Standing.{room, room_for_line}
 use Rattle.gathering.proofs.FromBytes.{ReadingAt, here, at_start, accepted_at, refused_at_lem, kilos_at}
-use Rattle.gathering.proofs.FromBytes.{keeps_at, end_at, next_at, verdict_at, gathered_at}
+use Rattle.gathering.proofs.FromBytes.{keeps_at, next_at, verdict_at, gathered_at}
 use Rattle.works.specs.Works.{works_after, kilos_after}
 use Rattle.reading.proofs.read_lines.Goals.{In_ok-map_err}
 use Rattle.reading.proofs.read_lines.Goals as goal
@@ -35,9 +35,7 @@ module _ (c : In_ok-map_err) where
   keeps = keeps_at _ _ _ _ c.loop-l.invariant.3 more _ read ok
 
   next : ReadingAt c.args.s.now c.next.new.self.at (works_after c.loop-l.works c.in-Some.l) (kilos_after c.loop-l.kilos c.in-Some.l)
-  next =
-      let at = rw c.loop-l.invariant.2 at c.in-Some.ensures.steps.3 (end_at _ _ _ _ c.loop-l.invariant.3 more _ read ok) in
-      rw at (next_at _ _ _ _ c.loop-l.invariant.3 more _ read ok)
+  next = rw c.in-Some.ensures.steps.3 (next_at _ _ _ _ c.loop-l.invariant.3 more _ read ok)
 
 pub loop-l-init : goal.loop-l-init
 loop-l-init c =

@@ -8,8 +8,8 @@ pub loop-i-init : goal.loop-i-init
 loop-i-init c =
     let s = c.args in
     let fits = or_lt 64 s.first s.second c.ranges.first.fits c.ranges.second.fits in
-    let part = s.share.part.0 in
-    let whole = s.share.whole.0 in
+    let part = s.share.part in
+    let whole = s.share.whole in
     let some = s.share.range.positive in
     let a = c.default-a.ensures in
     let b = c.default-b.ensures in

@@ -4,6 +4,6 @@ use Rattle.shares.proofs.quotients.Given as goal
 
 abbrev pub invariant-loop-i : goal.invariant-loop-i
 invariant-loop-i l = record {
-  first : Walked l.first l.share.part.0 l.share.whole.0 l.i l.a.quotient l.a.remainder;
-  second : Walked l.second l.share.part.0 l.share.whole.0 l.i l.b.quotient l.b.remainder;
+  first : Walked l.first l.share.part l.share.whole l.i l.a.quotient l.a.remainder;
+  second : Walked l.second l.share.part l.share.whole l.i l.b.quotient l.b.remainder;
 }

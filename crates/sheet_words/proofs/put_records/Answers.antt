@@ -1,7 +1,5 @@
 -- `put_records` meets its contract. Assumes nothing.
-use mathlib.Core.Path.{refl, ◌∙◌}
-use native.Mathlib.Omega.{arith}
-use Rattle.sheet_words.proofs.EveryLine.{put_start, put_long, put_all, put_room, put_end, put_next}
+use Rattle.sheet_words.proofs.EveryLine.{put_start, put_long, put_all, put_room, put_next}
 use Rattle.sheet_words.proofs.put_records.Goals as goal
 
 pub loop-l-init : goal.loop-l-init
@@ -20,8 +18,7 @@ pub loop-l-preserved : goal.loop-l-preserved
 loop-l-preserved c =
     let left = c.loop-l.invariant in
     let given = rw left.2 at c.in-Some.ensures.steps in
-    let next = given.3 (put_end _ _ _ _ _ left.3 given.0 _ given.1) in
-    (tt, tt, given.2, rw next (put_next _ _ _ _ _ left.3 given.0 _ given.1 _ _ c.put_words-place.ensures))
+    (tt, tt, given.2, rw given.3 (put_next _ _ _ _ _ left.3 given.0 _ given.1 _ _ c.put_words-place.ensures))
 
 pub shape_of-list : goal.shape_of-list
 shape_of-list c = put_long _ _ _ _ _ c.loop-l.invariant.3

@@ -1,0 +1,7 @@
+-- `transferred::electricity_entry` meets its contract: it is what is sent, with the user; shown so that a wrong entry is refused for the fact.
+-- Assumes nothing.
+use mathlib.Core.Path.{refl}
+use Rattle.transferred.proofs.electricity_entry.Goals as goal
+
+pub returns : goal.returns
+returns c = rw c.sent.ensures refl
