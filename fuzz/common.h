@@ -11,7 +11,7 @@
 #include <sys/mman.h>
 #include <unistd.h>
 
-enum { PAGE = 4096, KINDS = 8, BUCKETS = 8, NUMBERS = 17 };
+enum { PAGE = 4096, KINDS = 10, BUCKETS = 8, NUMBERS = 19 };
 
 static inline void require(int holds, const char *what) {
     if (!holds) {
@@ -68,7 +68,7 @@ static inline uint64_t hash(const uint8_t *bytes, size_t size) {
 }
 
 static inline size_t kind_of(uint64_t letter) {
-    const char *letters = "PSHWEBG";
+    const char *letters = "PSHWEBGKN";
     const char *found = letter > 0 && letter < 128 ? strchr(letters, (int)letter) : NULL;
     return found ? (size_t)(found - letters) : KINDS - 1;
 }

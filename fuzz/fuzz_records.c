@@ -75,7 +75,7 @@ static size_t digits_of(uint64_t word) {
 static void count_written(const uint64_t *list, size_t words, Answer answer) {
     size_t start = answer.line > 0 ? (answer.line - 1) * RECORD : 0;
     size_t last = answer.line > 0 ? at_most(words, start + RECORD) : words;
-    require(answer.number < NUMBERS, "a number above 16");
+    require(answer.number < NUMBERS, "a number above 18");
     written[answer.number][bucket_of(answer.line)][start < words ? kind_of(list[start]) : KINDS - 1] = 1;
     for (size_t at = 0; at < last; at++) {
         shapes[kind_of(list[at / RECORD * RECORD])][at % RECORD][digits_of(list[at])] = 1;
@@ -210,7 +210,7 @@ static void read_sheet(const uint8_t *bytes, size_t size, uint64_t seed) {
     const uint8_t *sheet = lend(sheet_room, bytes, size, 0);
     Answer answer = read_by_both(sheet, size, at_most(enough + seed / 8 % 64, LIST_WORDS), 0, seed);
     require(memcmp(sheet, bytes, size) == 0, "the sheet is changed");
-    require(answer.number < NUMBERS, "a number above 16");
+    require(answer.number < NUMBERS, "a number above 18");
     was_read[answer.number][bucket_of(answer.line)] = 1;
     sheet = lend(sheet_room, bytes, size, 1);
     answer = read_by_both(sheet, size, lent_length(enough, LIST_WORDS, seed), 1, seed);

@@ -61,7 +61,7 @@ static void count(const uint8_t *sheet, size_t size, Answer answer) {
     size_t start = 0;
     size_t length = wiltoresh_line(sheet, size, answer.line, &start);
     size_t kind = length > 0 ? kind_of(sheet[start]) : KINDS - 1;
-    require(answer.number < NUMBERS, "a number above 16");
+    require(answer.number < NUMBERS, "a number above 18");
     answers[answer.number][bucket_of(answer.line)][kind] = 1;
     count_shapes(sheet, size, answer.line);
 }

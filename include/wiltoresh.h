@@ -49,7 +49,7 @@ extern "C" {
 /*
  * The whole job: judges the sheet and writes its report at the start of the space.
  *
- * Returns 0 for an accepted sheet, or else the refusal's number, 1 to 16; docs/REFUSALS.md explains each.
+ * Returns 0 for an accepted sheet, or else the refusal's number, 1 to 18; docs/REFUSALS.md explains each.
  *
  * - Accepted: *line is 0 and *length is the report's length. The report stands in the first *length bytes of the space,
  *   with no zero byte after it; every byte of the space past it is as it was.
@@ -88,6 +88,8 @@ size_t wiltoresh_longest(void);
  *     'E'  from, to, kilowatt hours, factor
  *     'B'  process, mass, direct, indirect
  *     'G'  from, to, mass
+ *     'K'  precursor, rank, direct, indirect
+ *     'N'  process, precursor, mass
  *
  * WILTORESH_STANDARD is `-`, the standard value of the code. Fields that the kind does not have are spare, and 0.
  * docs/EXAMPLE.md reads a sheet line by line.

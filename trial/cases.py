@@ -1,6 +1,6 @@
 """Writes the trial's input to a file, and the output that is expected of it to FILE.stdout.
 
-cases.py FILE         the examples and the standard values of document 01, and one case of document 02
+cases.py FILE         the examples and the standard values of document 01, and six sheets of document 02
 cases.py FILE CASES   the cases that the reference implementation made
 """
 import sys
@@ -32,6 +32,26 @@ R,4,311,0,0,311,0,311,0,0.311,0.000
 R,5,0,0,0,0,0,0,0,0.000,0.000
 T,7786000,7786000,0,0
 """
+# Document 02, ticket 4: 100 kg of precursor 7 in process 1. Rank 1 governs though it is stated after the use: 1,900,000 and 250,000 mg/kg
+# are 190,000 g and 25,000 g. 300 of 1,000 kg go to process 2, so 57,000 g and 7,500 g of them; it uses 1 kg of precursor 9 three times,
+# each rounded alone: 500 mg is 1 g and 499 mg is 0 g. Precursor 8 is not used. Pools of 2: 57,003 g and 7,500 g over 400 kg.
+RANKS = b"""P,1,1000
+P,2,400
+K,7,3,2500000,400000
+N,1,7,100
+K,7,1,1900000,250000
+K,7,2,2000000,300000
+K,8,1,5000,5000
+N,2,9,1
+N,2,9,1
+K,9,2,500,499
+N,2,9,1
+G,1,2,300
+"""
+RANKS_REPORT = b"""R,1,0,0,0,190000,25000,133000,17500,190.000,25.000
+R,2,0,0,0,57003,7500,57003,7500,142.507,18.750
+T,215003,215003,0,0
+"""
 # Document 01, "Source streams": kJ/kg and mg/MJ of each fuel, mg/kg of each carbonate, as it prints them.
 FUELS = [
     (42300, 73300),
@@ -62,9 +82,9 @@ def table(method, rest, grams):
     return b"".join(lines), 0, 0, b"".join(rows) + b"T,%d,%d,0,0\n" % (sum(grams), sum(grams))
 
 
-# The example report, the table of refusals, a case of ticket 2, and the standard values: a sheet, its number and line, its
-# report. 1,000 kg at 1,000 mg/MJ weigh the net calorific value in grams, 1,000 kg at 1,000 kJ/kg the emission factor, 1,000 kg
-# of a carbonate its factor.
+# The example report, the table of refusals, those of ticket 4 with one of a line below a use without figures, a case of ticket 2 and
+# one of ticket 4, K lines alone, and the standard values: a sheet, its number and line, its report. 1,000 kg at 1,000 mg/MJ weigh
+# the net calorific value in grams, 1,000 kg at 1,000 kJ/kg the emission factor, 1,000 kg of a carbonate its factor.
 EXAMPLES = [
     (EXAMPLE, 0, 0, REPORT),
     (b"x" * 65537, 1, 0, b""),
@@ -81,8 +101,13 @@ EXAMPLES = [
     (b"P,1,5\nP,2,5\nG,1,2,1\nG,1,2,1\n", 12, 4, b""),
     (b"P,1,5\nP,2,5\nG,1,2,6\n", 13, 3, b""),
     (b"", 14, 0, b""),
+    (b"K,7,1,5,5\nK,7,2,5,5\nK,7,1,6,6\n", 17, 3, b""),
+    (b"P,1,5\nN,1,7,1\nN,1,8,1\nN,1,9,1\nK,7,3,5,5\n", 18, 3, b""),
+    (b"P,1,5\nN,1,7,1\nW,1,1,9\n", 10, 3, b""),
     (b"P,1,1\nP,2,1\nG,1,2,1\n", 0, 0, NOTHING),
     (SHARES, 0, 0, SHARES_REPORT),
+    (RANKS, 0, 0, RANKS_REPORT),
+    (b"K,7,1,5,5\nK,7,3,5,5\n", 0, 0, b"T,0,0,0,0\n"),
     table(1, b"1000,-,1000,10000,0", [value for value, _ in FUELS]),
     table(1, b"1000,1000,-,10000,0", [factor for _, factor in FUELS]),
     table(2, b"1000,-,0,10000,0", CARBONATES),

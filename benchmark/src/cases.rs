@@ -2,7 +2,7 @@
 
 use std::io::Write;
 
-use reference::samples::{Dice, KILOS, Maker, Size, full_sheet, pad};
+use reference::samples::{Dice, KILOS, Maker, Size, pad};
 use reference::sheet::{MOST_BYTES, MOST_LINES};
 
 use crate::SPACE;
@@ -51,13 +51,14 @@ pub fn cases() -> Vec<Case<u8>> {
         Case::accepted("short", "4,096 short lines", short_lines()),
         Case::accepted("goods", "16 processes, all 120 pairs", all_pairs()),
         Case::accepted("no-goods", "16 processes, no goods", no_goods()),
+        Case::accepted("uses", "full sheet of N lines", uses()),
         Case::accepted("tiny", "example of document 01", EXAMPLE.into()),
         refused_last(),
         refused_first(),
     ]
 }
 
-/// Sheets of mixed lines, 1 to 64 KiB.
+/// Sheets of mixed lines of document 01's kinds, 1 to 64 KiB.
 pub fn growth() -> Vec<Case<u8>> {
     (0..7)
         .map(|doubled| {
@@ -75,9 +76,37 @@ pub fn growth() -> Vec<Case<u8>> {
 pub const EXAMPLE: &str = "P,1,1000\nP,2,400\nS,1,1,16,1000,-,-,10000,0\nH,1,2,10000,56100\n\
 E,0,2,500,400000\nB,2,100,1900000,250000\nG,1,2,300\n";
 
-/// A sheet of 16 processes and mixed lines, of exactly so many bytes.
+/// A sheet of 16 processes and mixed lines of document 01's kinds, of exactly so
+/// many bytes.
 pub fn mixed(length: usize) -> Vec<u8> {
-    full_sheet(&mut Dice::new(SEED), 16, Size::Mixed, length)
+    let mut dice = Dice::new(SEED);
+    let mut maker = Maker::new(&mut dice, 16, Size::Mixed);
+    while maker.sheet.len() + 160 < length {
+        maker.line_of_document_01(&mut dice);
+    }
+    pad(&mut maker.sheet, length);
+    maker.sheet
+}
+
+/// A full sheet of 16 processes, a K line for each of 255 precursors at any rank,
+/// and N lines; a few lines of waste gas fill it up.
+fn uses() -> Vec<u8> {
+    let mut dice = Dice::new(SEED);
+    let mut sheet = Maker::new(&mut dice, 16, Size::Mixed).sheet;
+    for precursor in 1..=255 {
+        let rank = dice.between(1, 3);
+        let direct = Size::Mixed.number(&mut dice, 0, 100_000_000);
+        let indirect = Size::Mixed.number(&mut dice, 0, 100_000_000);
+        writeln!(sheet, "K,{precursor},{rank},{direct},{indirect}").unwrap();
+    }
+    while sheet.len() + 60 < MOST_BYTES {
+        let n = dice.between(1, 16);
+        let precursor = dice.between(1, 255);
+        let kg = dice.between(1, KILOS);
+        writeln!(sheet, "N,{n},{precursor},{kg}").unwrap();
+    }
+    pad(&mut sheet, MOST_BYTES);
+    sheet
 }
 
 /// A full sheet of 16 processes and source streams of all methods; a few lines

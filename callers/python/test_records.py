@@ -16,6 +16,8 @@ from wiltoresh import (
     Electricity,
     MeasurableHeat,
     OwnGood,
+    PrecursorFigures,
+    PrecursorUse,
     Process,
     Refusal,
     SourceStream,
@@ -28,9 +30,9 @@ from wiltoresh import (
 )
 
 WORKS = (Path(__file__).resolve().parents[2] / "example" / "works.csv").read_bytes()
-LINES = 39
+LINES = 41
 
-# The sheet of document 01.
+# The sheet of document 01, and a line of each kind of document 02.
 SHEET = b"""P,1,1000
 P,2,400
 S,1,1,16,1000,-,-,10000,0
@@ -38,6 +40,8 @@ H,1,2,10000,56100
 E,0,2,500,400000
 B,2,100,1900000,250000
 G,1,2,300
+K,9,2,1700000,200000
+N,2,9,50
 """
 
 RECORDS = [
@@ -48,6 +52,8 @@ RECORDS = [
     Electricity(from_=0, to=2, kilowatt_hours=500, factor=400000),
     BoughtPrecursor(process=2, mass=100, direct=1900000, indirect=250000),
     OwnGood(from_=1, to=2, mass=300),
+    PrecursorFigures(precursor=9, rank=2, direct=1700000, indirect=200000),
+    PrecursorUse(process=2, precursor=9, mass=50),
 ]
 
 ONE, TWO = Process(1, 5), Process(2, 5)
@@ -69,6 +75,8 @@ REFUSED_RECORDS = [
     (12, 4, [ONE, TWO, OwnGood(1, 2, 1), OwnGood(1, 2, 1)]),
     (13, 3, [ONE, TWO, OwnGood(1, 2, 6)]),
     (14, 0, []),
+    (17, 3, [PrecursorFigures(7, 1, 5, 5), PrecursorFigures(7, 2, 5, 5), PrecursorFigures(7, 1, 6, 6)]),
+    (18, 3, [ONE, PrecursorUse(1, 7, 9), PrecursorUse(1, 8, 9), PrecursorFigures(7, 3, 5, 5)]),
 ]
 
 
@@ -97,6 +105,8 @@ REFUSED_WORDS = [
     (12, 4, words(("P", [1, 5]), ("P", [2, 5]), ("G", [1, 2, 1]), ("G", [1, 2, 1]))),
     (13, 3, words(("P", [1, 5]), ("P", [2, 5]), ("G", [1, 2, 6]))),
     (14, 0, array("Q")),
+    (17, 2, words(("K", [7, 1, 5, 5]), ("K", [7, 1, 6, 6]))),
+    (18, 2, words(("P", [1, 5]), ("N", [1, 7, 5]))),
 ]
 
 

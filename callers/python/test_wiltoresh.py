@@ -1,4 +1,4 @@
-"""The Python module: the examples of document 01 and one of document 02, the works in example/, lent spaces, threads and
+"""The Python module: the examples of document 01 and some of document 02, the works in example/, lent spaces, threads and
 places of lines."""
 
 import doctest
@@ -49,6 +49,8 @@ REFUSED = [
     (12, 4, b"G,1,2,1", b"P,1,5\nP,2,5\nG,1,2,1\nG,1,2,1\n"),
     (13, 3, b"G,1,2,6", b"P,1,5\nP,2,5\nG,1,2,6\n"),
     (14, 0, b"", b""),
+    (17, 2, b"K,1,1,6,6", b"K,1,1,5,5\nK,1,1,6,6\n"),
+    (18, 2, b"N,1,1,5", b"P,1,5\nN,1,1,5\n"),
 ]
 
 TOO_SHORT = Answer(16, 0, 0)
@@ -74,6 +76,13 @@ class Document(unittest.TestCase):
         """Document 02, ticket 2: 11 g of carbon in and 4 g out, half of each biomass: 6 − 2."""
         sheet = b"P,1,5\nS,1,3,0,3,1000,0,10000,5000\nS,1,4,0,1,1000,0,10000,5000\n"
         self.assertEqual(report(sheet), b"R,1,4,0,0,4,0,4,0,0.800,0.000\nT,4,4,0,0\n")
+
+    def test_figures_of_a_bought_precursor(self) -> None:
+        """Document 02, ticket 4: 100 kg at the verified figures, which are stated below the default and the use."""
+        sheet = b"P,1,1000\nK,7,3,2500000,400000\nN,1,7,100\nK,7,1,1900000,250000\n"
+        expected = b"R,1,0,0,0,190000,25000,190000,25000,190.000,25.000\nT,215000,215000,0,0\n"
+        self.assertEqual(report(sheet), expected)
+        self.assertEqual(report(b"K,7,1,5,5\n"), b"T,0,0,0,0\n")
 
     def test_table_of_refusals(self) -> None:
         for number, line, text, sheet in REFUSED:
@@ -173,7 +182,7 @@ class Lines(unittest.TestCase):
     def test_lines_that_a_sheet_has_not(self) -> None:
         end = len(WORKS)
         self.assertEqual(line_place(WORKS, 0), slice(0, 0))
-        for line in (40, 41, 2**64 - 1, 2**64, 2**64 + 1):
+        for line in (42, 43, 2**64 - 1, 2**64, 2**64 + 1):
             self.assertEqual(line_place(WORKS, line), slice(end, end))
         with self.assertRaises(ValueError):
             line_place(WORKS, -1)
@@ -184,10 +193,10 @@ class Lines(unittest.TestCase):
         self.assertEqual(raised.exception.args, (4, 1, b"p,1,5"))
         with self.assertRaises(Refusal) as raised:
             report(WORKS + b"G,4,3,1\n")
-        self.assertEqual(raised.exception.args, (10, 40, b"G,4,3,1"))
+        self.assertEqual(raised.exception.args, (10, 42, b"G,4,3,1"))
         with self.assertRaises(Refusal) as raised:
             report(WORKS[:-1])
-        self.assertEqual(raised.exception.args, (3, 39, b"G,3,4,208000000"))
+        self.assertEqual(raised.exception.args, (3, 41, b"G,3,4,208000000"))
 
     def test_zero_bytes_do_not_end_a_sheet(self) -> None:
         with self.assertRaises(Refusal) as raised:
@@ -200,7 +209,7 @@ class Values(unittest.TestCase):
         self.assertEqual(str(Refusal(14, 0, b"")), "refused by 14: empty sheet")
         message = "refused by 9 at line 4: process without a P line above it"
         self.assertEqual(str(Refusal(9, 4, b"W,1,2,9")), message)
-        self.assertEqual(sorted(wiltoresh.MEANINGS), list(range(1, 17)))
+        self.assertEqual(sorted(wiltoresh.MEANINGS), list(range(1, 19)))
 
     def test_refusal_passes_between_processes(self) -> None:
         copy = pickle.loads(pickle.dumps(Refusal(9, 4, b"W,1,2,9")))

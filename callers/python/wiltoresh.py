@@ -5,8 +5,8 @@
     b'R,1,0,0,0,0,0,0,0,0.000,0.000\\nT,0,0,0,0\\n'
 
 A sheet can be written from records, one for each line, and read into them. A record is an object of the class of its
-kind: Process, SourceStream, MeasurableHeat, WasteGas, Electricity, BoughtPrecursor or OwnGood. Its fields have the line's
-order; `from_` has its underscore because `from` is a word of Python.
+kind: Process, SourceStream, MeasurableHeat, WasteGas, Electricity, BoughtPrecursor, OwnGood, PrecursorFigures or
+PrecursorUse. Its fields have the line's order; `from_` has its underscore because `from` is a word of Python.
 
     >>> wiltoresh.write([wiltoresh.Process(1, 5), wiltoresh.WasteGas(1, 0, 9)])
     b'P,1,5\\nW,1,0,9\\n'
@@ -39,6 +39,8 @@ __all__ = [
     "MEANINGS",
     "MeasurableHeat",
     "OwnGood",
+    "PrecursorFigures",
+    "PrecursorUse",
     "Process",
     "RECORD_WORDS",
     "Record",
@@ -73,6 +75,8 @@ MEANINGS = {
     14: "empty sheet",
     15: "a whole-gram figure of the report, its sign aside, is 2^63 or more",
     16: "space or list too short",
+    17: "second K line of a precursor and rank",
+    18: "precursor without a K line",
 }
 """What each refusal's number means, in a few words."""
 
@@ -80,7 +84,7 @@ MEANINGS = {
 class Answer(NamedTuple):
     """The answer to a sheet or to records, and a lent space, as report_into and write_into give it.
 
-    number is 0 for an accepted sheet, or else the refusal's number, 1 to 16. line is the number of the offending line,
+    number is 0 for an accepted sheet, or else the refusal's number, 1 to 18. line is the number of the offending line,
     the first being 1; it is 0 for a refusal of the whole sheet and for an accepted one. length is the length of the
     report, or of the sheet that was written; 0 for a refusal.
     """
@@ -200,7 +204,40 @@ class OwnGood:
     mass: int
 
 
-Record = Union[Process, SourceStream, MeasurableHeat, WasteGas, Electricity, BoughtPrecursor, OwnGood]
+@dataclass(frozen=True)
+class PrecursorFigures:
+    """`K`: specific direct and indirect emissions stated for a bought precursor, in mg/kg.
+
+    precursor is its number, 1 to 255. rank is 1 for verified figures, 2 for the supplier's own and 3 for the published
+    default; of those of one precursor the lowest rank number governs, wherever it stands.
+    """
+
+    precursor: int
+    rank: int
+    direct: int
+    indirect: int
+
+
+@dataclass(frozen=True)
+class PrecursorUse:
+    """`N`: use of a bought precursor by its governing figures. precursor is its number, mass is in kg."""
+
+    process: int
+    precursor: int
+    mass: int
+
+
+Record = Union[
+    Process,
+    SourceStream,
+    MeasurableHeat,
+    WasteGas,
+    Electricity,
+    BoughtPrecursor,
+    OwnGood,
+    PrecursorFigures,
+    PrecursorUse,
+]
 """A line of a sheet, with its fields in the line's order."""
 
 RECORD_WORDS = 9
@@ -217,6 +254,8 @@ _KINDS = {
     ord("E"): Electricity,
     ord("B"): BoughtPrecursor,
     ord("G"): OwnGood,
+    ord("K"): PrecursorFigures,
+    ord("N"): PrecursorUse,
 }
 _LETTERS = {kind: letter for letter, kind in _KINDS.items()}
 _NAMES = {kind: [field.name for field in fields(kind)] for kind in _LETTERS}

@@ -2,7 +2,7 @@
 
 use std::io::Write;
 
-use reference::samples::{Dice, Size, full_sheet, pad};
+use reference::samples::{Dice, KILOS, Size, every_figure, full_sheet, pad};
 use reference::sheet::{MOST_BYTES, MOST_LINES};
 
 use crate::limits::beside_any;
@@ -11,7 +11,7 @@ use crate::valid::{process_count, size};
 
 /// A sheet near the limits of bytes or lines.
 pub fn large(dice: &mut Dice) -> Vec<u8> {
-    match dice.below(8) {
+    match dice.below(10) {
         0 => full(dice),
         1 => {
             let mut sheet = full(dice);
@@ -21,6 +21,7 @@ pub fn large(dice: &mut Dice) -> Vec<u8> {
         2..5 => many_lines(dice),
         5 => highest(dice),
         6 => long_field(dice),
+        7 | 8 => many_figures(dice),
         _ => {
             let length = near(dice, MOST_BYTES);
             random(dice, length)
@@ -69,6 +70,33 @@ fn many_lines(dice: &mut Dice) -> Vec<u8> {
     sheet
 }
 
+/// Figures of every precursor at each rank, or at some, and uses of any, in any
+/// order; one in four has no uses, and one in four a K line more.
+fn many_figures(dice: &mut Dice) -> Vec<u8> {
+    let size = size(dice);
+    let mut lines = every_figure(dice, size);
+    if dice.once_in(3) {
+        lines.truncate(dice.between(100, 764) as usize);
+    }
+    if dice.once_in(4) {
+        let again = lines[dice.index(lines.len())].clone();
+        lines.push(again);
+    }
+    let uses = match dice.below(4) {
+        0 => 0,
+        1 => near(dice, MOST_LINES as usize - 1).saturating_sub(lines.len()),
+        _ => dice.between(1, 600) as usize,
+    };
+    let most = dice.pick(&[99, 99, KILOS]);
+    for _ in 0..uses {
+        let kg = dice.between(1, most);
+        lines.push(format!("N,1,{},{kg}\n", dice.between(1, 255)));
+    }
+    dice.shuffle(&mut lines);
+    let processes = if uses == 0 { "" } else { "P,1,7\n" };
+    (processes.to_owned() + &lines.concat()).into_bytes()
+}
+
 /// Bought precursors of the highest figures: no lines weigh more.
 fn highest(dice: &mut Dice) -> Vec<u8> {
     let mut sheet = Vec::new();
@@ -80,9 +108,15 @@ fn highest(dice: &mut Dice) -> Vec<u8> {
     for to in 2..=count {
         writeln!(sheet, "G,1,{to},{}", dice.between(1, 600_000_000)).unwrap();
     }
+    writeln!(sheet, "K,255,1,100000000,100000000").unwrap();
+    let letter = dice.pick(&["B", "N", "BN"]);
     while sheet.len() + 60 < MOST_BYTES {
         let n = dice.between(1, count);
-        writeln!(sheet, "B,{n},10000000000,100000000,100000000").unwrap();
+        match dice.pick(letter.as_bytes()) {
+            b'B' => writeln!(sheet, "B,{n},10000000000,100000000,100000000"),
+            _ => writeln!(sheet, "N,{n},255,10000000000"),
+        }
+        .unwrap();
     }
     pad(&mut sheet, MOST_BYTES);
     sheet
@@ -102,8 +136,8 @@ fn long_field(dice: &mut Dice) -> Vec<u8> {
 pub fn random(dice: &mut Dice, length: usize) -> Vec<u8> {
     let alphabet: &[u8] = match dice.below(4) {
         0 => return (0..length).map(|_| dice.roll() as u8).collect(),
-        1 => b"PSHWEBG0123456789,-\n",
-        2 => b"PSHWEBG0123456789,,,,,,,,,,\n\n\n-",
+        1 => b"PSHWEBGKN0123456789,-\n",
+        2 => b"PSHWEBGKN0123456789,,,,,,,,,,\n\n\n-",
         _ => b"PW0112,,,\n",
     };
     let mut sheet: Vec<u8> = match dice.below(2) {

@@ -18,11 +18,13 @@ const WHOLE: Limit = (10_000, 10_000);
 const METHOD: Limit = (1, 4);
 const CARBON: Limit = (0, 1_000_000);
 const FIGURE: Limit = (0, 100_000_000);
+const PRECURSOR: Limit = (1, 255);
+const RANK: Limit = (1, 3);
 const HEAT: Limit = (0, 400_000);
 
 /// The letter of each kind of line and the limits of its fields; a source
 /// stream has a row for each method.
-const KINDS: [(char, &[Limit]); 10] = [
+const KINDS: [(char, &[Limit]); 12] = [
     ('P', &[N, KG]),
     (
         'S',
@@ -39,6 +41,8 @@ const KINDS: [(char, &[Limit]); 10] = [
     ('E', &[END, END, KWH, (0, 2_000_000)]),
     ('B', &[N, KG, FIGURE, FIGURE]),
     ('G', &[END, END, KG]),
+    ('K', &[PRECURSOR, RANK, FIGURE, FIGURE]),
+    ('N', &[N, PRECURSOR, KG]),
 ];
 
 /// What is no number, or no number of the sheet's spelling.
@@ -93,6 +97,8 @@ fn line(dice: &mut Dice, processes: u64) -> String {
         .map(|limit| match *limit {
             N => dice.between(1, processes).to_string(),
             END => dice.between(0, processes).to_string(),
+            // Mostly those that Maker states too.
+            PRECURSOR if !dice.once_in(8) => dice.between(1, 3).to_string(),
             (lowest, highest) => Size::Mixed.number(dice, lowest, highest).to_string(),
         })
         .collect();
@@ -110,7 +116,8 @@ fn line(dice: &mut Dice, processes: u64) -> String {
     format!("{letter},{}\n", fields.join(","))
 }
 
-/// A good sheet followed by lines of which each may break several limits.
+/// A good sheet followed by lines of which each may break several limits. One in
+/// two states figures for the precursors 1 to 3, so that few N lines lack theirs.
 pub fn at_limits(dice: &mut Dice) -> Vec<u8> {
     let count = process_count(dice);
     let size = size(dice);
@@ -118,6 +125,11 @@ pub fn at_limits(dice: &mut Dice) -> Vec<u8> {
     if dice.once_in(2) {
         for _ in 0..dice.below(4) {
             maker.line(dice);
+        }
+    }
+    if dice.once_in(2) {
+        for _ in 0..4 {
+            maker.precursor_figures(dice);
         }
     }
     for _ in 0..dice.between(1, 3) {

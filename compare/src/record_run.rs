@@ -15,7 +15,7 @@ const PRINTED: usize = 60;
 /// Has the first `count` lists of the seed written and read, and as many sheets
 /// read, and prints how many had each number.
 pub fn all(count: u64, seed: u64) {
-    let mut counts = [(0u64, 0u64); 17];
+    let mut counts = [(0u64, 0u64); 19];
     for index in 0..count {
         let (written, read) = exchanged(seed, index);
         counts[written as usize].0 += 1;

@@ -8,7 +8,7 @@ use crate::sheets::sheet;
 /// Judges the first `count` sheets of the seed and prints how many had each
 /// number.
 pub fn all(count: u64, seed: u64) {
-    let mut counts = [0u64; 17];
+    let mut counts = [0u64; 19];
     for index in 0..count {
         counts[judged(seed, index) as usize] += 1;
     }

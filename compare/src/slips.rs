@@ -4,7 +4,7 @@ use reference::samples::Dice;
 
 use crate::limits::beside_any;
 
-const ALPHABET: &[u8] = b"PSHWEBG0123456789,-\n";
+const ALPHABET: &[u8] = b"PSHWEBGKN0123456789,-\n";
 
 /// Changes the sheet in one place, sometimes in up to five.
 pub fn slip(dice: &mut Dice, sheet: &mut Vec<u8>) {
@@ -108,7 +108,8 @@ fn spell_otherwise(dice: &mut Dice, field: &mut Vec<u8>) {
     }
 }
 
-/// A line dropped, doubled or moved; CR before every LF; a G line raised.
+/// A line dropped, doubled or moved; CR before every LF; a G line raised; a K
+/// line doubled or dropped.
 fn slip_line(dice: &mut Dice, sheet: &mut Vec<u8>) {
     let mut lines = parted(sheet);
     let at = any_line(dice, &lines);
@@ -120,9 +121,38 @@ fn slip_line(dice: &mut Dice, sheet: &mut Vec<u8>) {
         10 => lines.push(lines[at].clone()),
         11 => lines.iter_mut().for_each(|line| line.push(b"\r".into())),
         12 => lines.insert(at, vec![Vec::new()]),
+        13 if lines.iter().any(|line| line[0] == b"K") => slip_figures(dice, &mut lines),
         _ => slip_good(dice, &mut lines),
     }
     *sheet = joined(&lines);
+}
+
+/// A K line dropped, so that its precursor may have none left, or doubled with
+/// other figures, or its precursor or rank changed by one.
+fn slip_figures(dice: &mut Dice, lines: &mut Lines) {
+    let figures: Vec<usize> = (0..lines.len())
+        .filter(|at| lines[*at].len() == 5 && lines[*at][0] == b"K")
+        .collect();
+    let Some(&at) = figures.get(dice.index(figures.len().max(1))) else {
+        return;
+    };
+    match dice.below(4) {
+        0 => drop(lines.remove(at)),
+        1 => {
+            let mut again = lines[at].clone();
+            again[3] = dice.below(9).to_string().into_bytes();
+            lines.insert(
+                dice.between(at as u64, lines.len() as u64 - 1) as usize,
+                again,
+            );
+        }
+        place => {
+            let field = &mut lines[at][place as usize - 1];
+            if let Some(last) = field.last_mut().filter(|digit| digit.is_ascii_digit()) {
+                *last = if *last == b'9' { b'8' } else { *last + 1 };
+            }
+        }
+    }
 }
 
 /// A G line doubled, turned, or with a digit more; without one, a P line

@@ -2,11 +2,13 @@
 
 use std::io::Write;
 
-use reference::samples::{Dice, KILOS, Maker, Size, mixed_sheet};
+use reference::samples::{Dice, KILOS, Maker, Size, every_figure, mixed_sheet};
 
 /// A good sheet, small but for that of all pairs.
 pub fn valid(dice: &mut Dice) -> Vec<u8> {
-    match dice.below(32) {
+    match dice.below(38) {
+        32..37 => precursors(dice),
+        37 => figures_alone(dice),
         0 => all_pairs(dice),
         1..6 => lowered(dice),
         6..10 => streams(dice),
@@ -111,6 +113,28 @@ fn goods(dice: &mut Dice) -> Vec<u8> {
         maker.good(dice);
     }
     maker.sheet
+}
+
+/// Uses of bought precursors, their figures at one rank to three above them or
+/// below, and goods that pass them on.
+fn precursors(dice: &mut Dice) -> Vec<u8> {
+    let mut maker = maker(dice);
+    for _ in 0..dice.between(1, 8) {
+        match dice.below(5) {
+            0 | 1 => maker.precursor_use(dice),
+            2 | 3 => maker.precursor_figures(dice),
+            _ => maker.good(dice),
+        }
+    }
+    maker.sheet
+}
+
+/// K lines alone, without a process.
+fn figures_alone(dice: &mut Dice) -> Vec<u8> {
+    let size = size(dice);
+    let lines = every_figure(dice, size);
+    let count = dice.between(1, 6) as usize;
+    lines[..count].concat().into_bytes()
 }
 
 /// 16 processes and a G line for each of the 120 pairs, in any order; some

@@ -1,6 +1,6 @@
 //! Carbon balance sheet of an installation, written from the scope paper
-//! (document 01) and tickets 1 and 2 of the later requests (document 02) alone,
-//! for comparison with another implementation.
+//! (document 01) and tickets 1, 2 and 4 of the later requests (document 02)
+//! alone, for comparison with another implementation.
 //!
 //! The data goes through the modules in this order: `sheet` parts the bytes
 //! into lines and fields, `refusals` judges each line, `reckoning` takes the
@@ -88,7 +88,7 @@ pub fn reckon(sheet: &[u8]) -> Result<Account, Refusal> {
 fn reckon_by(portion: impl Fn(Both, u64, u64) -> Both, sheet: &[u8]) -> Result<Account, Refusal> {
     let mut works = Works::default();
     read(sheet, &mut works)?;
-    works.settle(portion).map_err(on_no_line)
+    works.settle(portion)
 }
 
 /// Reads and judges the whole sheet and enters its lines. Compiled once, so
@@ -141,7 +141,7 @@ fn take_line(
         return Err(Fault::TooManyLines);
     }
     let line = read_line(rest, fields)?;
-    works.enter(judge(line.kind, line.count, fields, works)?);
+    works.enter(judge(line.kind, line.count, fields, works)?, number);
     Ok(line)
 }
 

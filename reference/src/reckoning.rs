@@ -1,12 +1,16 @@
 //! Reckoning: the works takes the judged lines one by one, and at the end
-//! settles every process from the first to the last.
+//! settles every process from the first to the last. What N lines use is weighed
+//! at the end too, since a K line may follow its use.
 //!
 //! No sum here can pass 63 bits: a line adds at most 2 × 10^15 g to anything
-//! (both figures of a bought precursor), and 4,096 lines make 8.2 × 10^18.
+//! (both figures of a bought precursor, by a B line or an N line), and 4,096
+//! lines make 8.2 × 10^18.
 
-use crate::refusals::{Entry, Fault};
+use crate::refusals::{Entry, Fault, Refusal};
 
 pub const MOST_PROCESSES: usize = 16;
+pub const MOST_PRECURSORS: usize = 255;
+pub const MOST_RANKS: usize = 3;
 
 /// mg per MJ that a receiver of waste gas is charged.
 const GAS_FACTOR: u64 = 56_100;
@@ -164,6 +168,40 @@ struct Process {
     takers: [u64; MOST_PROCESSES],
 }
 
+/// Specific direct and indirect figures of a bought precursor, mg per kg.
+#[derive(Clone, Copy, Debug, PartialEq, Eq)]
+pub struct Figures {
+    pub direct: u64,
+    pub indirect: u64,
+}
+
+impl Figures {
+    /// The grams of so many kg, each figure rounded by itself.
+    #[inline]
+    fn weigh(self, kg: u64) -> Both {
+        Both {
+            direct: thousandth(kg * self.direct),
+            indirect: thousandth(kg * self.indirect),
+        }
+    }
+}
+
+/// A bought precursor that K and N lines name, 1 to 255.
+#[derive(Clone, Copy, Debug, PartialEq, Eq)]
+pub struct Precursor(pub u8);
+
+/// What K lines state of one precursor, by rank less one.
+type Ranks = [Option<Figures>; MOST_RANKS];
+
+/// An N line.
+#[derive(Clone, Copy)]
+struct PrecursorUse {
+    line: u32,
+    process: usize,
+    precursor: Precursor,
+    kg: u64,
+}
+
 /// What the lines read so far have made of the works.
 #[derive(Default)]
 pub struct Works {
@@ -171,6 +209,10 @@ pub struct Works {
     /// A line of another kind than P has come.
     listed: bool,
     process: [Process; MOST_PROCESSES],
+    /// By the number of the precursor less one; none before the first K line.
+    stated: Vec<Ranks>,
+    /// The N lines, from the top.
+    uses: Vec<PrecursorUse>,
     entered: i64,
     uncredited: u64,
 }
@@ -195,12 +237,29 @@ impl Works {
         process.output - process.given
     }
 
+    /// Whether a K line of this precursor and rank has come.
+    pub fn has_stated(&self, precursor: Precursor, rank: usize) -> bool {
+        self.ranks_of(precursor)
+            .is_some_and(|ranks| ranks[rank - 1].is_some())
+    }
+
+    fn ranks_of(&self, precursor: Precursor) -> Option<&Ranks> {
+        self.stated.get(usize::from(precursor.0) - 1)
+    }
+
+    /// "The lowest rank number stated anywhere on the sheet governs": its
+    /// figures, none without a K line of the precursor. All lines have come.
+    fn governing(&self, precursor: Precursor) -> Option<Figures> {
+        self.ranks_of(precursor)?.iter().flatten().copied().next()
+    }
+
     fn at(&mut self, process: usize) -> &mut Process {
         &mut self.process[process - 1]
     }
 
+    /// Takes the judged line of this number.
     #[inline(always)]
-    pub fn enter(&mut self, entry: Entry) {
+    pub fn enter(&mut self, entry: Entry, line: u32) {
         if let Entry::Process { output } = entry {
             self.count += 1;
             self.at(self.count).output = output;
@@ -258,22 +317,54 @@ impl Works {
             Entry::Bought {
                 process,
                 kg,
-                direct,
-                indirect,
-            } => {
-                let bought = Both {
-                    direct: thousandth(kg * direct),
-                    indirect: thousandth(kg * indirect),
-                };
-                self.at(process).bought.add(bought);
-                self.entered += (bought.direct + bought.indirect) as i64;
-            }
+                figures,
+            } => self.buy(process, figures.weigh(kg)),
             Entry::Good { from, to, kg } => {
                 let process = self.at(from);
                 process.given += kg;
                 process.takers[to - 1] = kg;
             }
+            Entry::PrecursorFigures {
+                precursor,
+                rank,
+                figures,
+            } => self.state(precursor, rank, figures),
+            Entry::PrecursorUse {
+                process,
+                precursor,
+                kg,
+            } => self.uses.push(PrecursorUse {
+                line,
+                process,
+                precursor,
+                kg,
+            }),
         }
+    }
+
+    #[inline]
+    fn buy(&mut self, process: usize, bought: Both) {
+        self.at(process).bought.add(bought);
+        self.entered += (bought.direct + bought.indirect) as i64;
+    }
+
+    fn state(&mut self, precursor: Precursor, rank: usize, figures: Figures) {
+        if self.stated.is_empty() {
+            self.stated = vec![[None; MOST_RANKS]; MOST_PRECURSORS];
+        }
+        self.stated[usize::from(precursor.0) - 1][rank - 1] = Some(figures);
+    }
+
+    /// Every N line from the top, as a B line with the governing figures.
+    fn buy_used(&mut self) -> Result<(), Refusal> {
+        for used in std::mem::take(&mut self.uses) {
+            let figures = self.governing(used.precursor).ok_or(Refusal {
+                fault: Fault::NoFigures,
+                line: used.line,
+            })?;
+            self.buy(used.process, figures.weigh(used.kg));
+        }
+        Ok(())
     }
 
     /// Heat or power leaving `from`: out of a process's balance, or entering
@@ -286,10 +377,12 @@ impl Works {
         }
     }
 
-    /// The figures of the report. Goods only go from a lower to a higher
-    /// number, so each process is complete when its turn comes. `portion` gives
-    /// what `Both::portion` does.
-    pub fn settle(&self, portion: impl Fn(Both, u64, u64) -> Both) -> Result<Account, Fault> {
+    /// The figures of the report, all lines having passed: first what N lines
+    /// use, by which 18 shows, then the processes. Goods only go from a lower to
+    /// a higher number, so each process is complete when its turn comes.
+    /// `portion` gives what `Both::portion` does.
+    pub fn settle(&mut self, portion: impl Fn(Both, u64, u64) -> Both) -> Result<Account, Refusal> {
+        self.buy_used()?;
         let mut account = Account {
             count: self.count,
             rows: [Row::default(); MOST_PROCESSES],
@@ -332,7 +425,10 @@ impl Works {
             account.raised += raised;
         }
         if account.has_too_big() {
-            return Err(Fault::FigureTooBig);
+            return Err(Refusal {
+                fault: Fault::FigureTooBig,
+                line: 0,
+            });
         }
         Ok(account)
     }

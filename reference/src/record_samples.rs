@@ -5,15 +5,17 @@ use crate::records::{DASH, RECORD_WORDS};
 use crate::samples::{Dice, KILOS, KILOWATT_HOURS, MEGAJOULES, Size, full_sheet, mixed_sheet};
 use crate::sheet::{Kind, MOST_BYTES, MOST_LINES};
 
-const LETTERS: &[u8; 7] = b"PSHWEBG";
+const LETTERS: &[u8; 9] = b"PSHWEBGKN";
 
 /// Numbers at which ranges, spellings and words end.
-const LIMITS: [u64; 20] = [
+const LIMITS: [u64; 22] = [
     0,
     1,
+    3,
     4,
     9,
     16,
+    255,
     10_000,
     200_000,
     400_000,
@@ -159,20 +161,23 @@ fn slip(dice: &mut Dice, list: &mut [u64]) {
     };
 }
 
-/// Puts in a record that is refused by 8 to 13, or by none if the records above
-/// it are so: an end or a process that is missing, two ends that do not go
-/// together, `-` with code 0, a second good of a pair, too much of an output.
+/// Puts in a record that is refused by 8 to 13, 17 or 18, or by none if the
+/// other records are so: an end or a process that is missing, two ends that do
+/// not go together, `-` with code 0, a second good of a pair, too much of an
+/// output, a second rank of a precursor, a precursor without figures.
 fn plant(dice: &mut Dice, list: &mut Vec<u64>) {
     let (from, to) = (dice.below(4), dice.below(4));
     let kg = dice.pick(&[1, 21, KILOS]);
     let (a, b) = dice.pick(&[(DASH, 5), (5, DASH), (DASH, DASH)]);
-    let (letter, fields) = match dice.below(7) {
+    let (letter, fields) = match dice.below(9) {
         0 => (b'P', [from, kg, 0, 0, 0, 0, 0, 0]),
         1 => (b'H', [from, to, kg, 5, 0, 0, 0, 0]),
         2 => (b'W', [from, to, kg, 0, 0, 0, 0, 0]),
         3 => (b'E', [from, to, kg, 5, 0, 0, 0, 0]),
         4 => (b'S', [1, 1, 0, kg, a, b, 5, 5]),
         5 => (b'S', [to, 2, dice.below(2), kg, DASH, 0, 5, 5]),
+        6 => (b'K', [from, to, 7, 5, 0, 0, 0, 0]),
+        7 => (b'N', [1, from, kg, 0, 0, 0, 0, 0]),
         _ => (b'G', [from, to, kg, 0, 0, 0, 0, 0]),
     };
     let record = [u64::from(letter)].into_iter().chain(fields);

@@ -64,8 +64,8 @@ fn answer(outcome: Result<usize, Refusal>) -> (u32, u32, usize) {
     }
 }
 
-/// "1 and 14 come before any line, 15 and then 16 after all"; the space is
-/// touched when all of them have been passed.
+/// "1 and 14 come before any line, 15 and then 16 after all", and 18 before 15;
+/// the space is touched when all of them have been passed.
 fn sheet_into(records: &[u64], space: &mut [u8]) -> Result<usize, Refusal> {
     let pen = spell(records).ok_or(on_no_line(Fault::TooManyBytes))?;
     let sheet = pen.sheet();
@@ -74,7 +74,7 @@ fn sheet_into(records: &[u64], space: &mut [u8]) -> Result<usize, Refusal> {
     }
     let mut works = Works::default();
     enter(records, &mut works)?;
-    works.settle(Both::portion).map_err(on_no_line)?;
+    works.settle(Both::portion)?;
     let place = space.get_mut(..sheet.len());
     let place = place.ok_or(on_no_line(Fault::SpaceTooShort))?;
     place.copy_from_slice(sheet);
@@ -89,7 +89,7 @@ fn records_into(sheet: &[u8], list: &mut [u64]) -> Result<usize, Refusal> {
     read_and_show(sheet, &mut works, |letter, fields| {
         records.push(record_of(letter, fields));
     })?;
-    works.settle(Both::portion).map_err(on_no_line)?;
+    works.settle(Both::portion)?;
     let words = records.as_flattened();
     let place = list.get_mut(..words.len());
     let place = place.ok_or(on_no_line(Fault::SpaceTooShort))?;
@@ -138,7 +138,7 @@ fn take_record(
     for (field, word) in fields.iter_mut().zip(words) {
         *field = Field::of_word(*word);
     }
-    works.enter(judge(kind, words.len(), fields, works)?);
+    works.enter(judge(kind, words.len(), fields, works)?, number);
     Ok(())
 }
 

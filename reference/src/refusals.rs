@@ -3,7 +3,7 @@
 
 use std::ops::RangeInclusive;
 
-use crate::reckoning::{Stream, Works};
+use crate::reckoning::{Figures, Precursor, Stream, Works};
 use crate::sheet::{Field, Fields, Kind};
 
 /// A fault; its number is the one given to the caller.
@@ -26,6 +26,8 @@ pub enum Fault {
     EmptySheet = 14,
     FigureTooBig = 15,
     SpaceTooShort = 16,
+    SecondOfRank = 17,
+    NoFigures = 18,
 }
 
 #[derive(Clone, Copy, Debug, PartialEq, Eq)]
@@ -64,12 +66,21 @@ pub enum Entry {
     Bought {
         process: usize,
         kg: u64,
-        direct: u64,
-        indirect: u64,
+        figures: Figures,
     },
     Good {
         from: usize,
         to: usize,
+        kg: u64,
+    },
+    PrecursorFigures {
+        precursor: Precursor,
+        rank: usize,
+        figures: Figures,
+    },
+    PrecursorUse {
+        process: usize,
+        precursor: Precursor,
         kg: u64,
     },
 }
@@ -83,6 +94,8 @@ const KILOWATT_HOURS: RangeInclusive<u64> = 1..=100_000_000_000;
 const HEAT_FACTOR: RangeInclusive<u64> = 0..=400_000;
 const POWER_FACTOR: RangeInclusive<u64> = 0..=2_000_000;
 const BOUGHT_FIGURE: RangeInclusive<u64> = 0..=100_000_000;
+const PRECURSOR: RangeInclusive<u64> = 1..=255;
+const RANK: RangeInclusive<u64> = 1..=3;
 const SHARE: RangeInclusive<u64> = 0..=10_000;
 
 const FUEL_CODE: RangeInclusive<u64> = 0..=16;
@@ -120,7 +133,7 @@ const CARBONATES: [u64; 9] = [
     440_000, 522_000, 415_000, 223_000, 596_000, 318_000, 298_000, 524_000, 380_000,
 ];
 
-/// Judges one line by faults 5 to 13, the works being what the lines above
+/// Judges one line by faults 5 to 13 and 17, the works being what the lines above
 /// have made of it. The line has been read, or is a record's and never was
 /// bytes; `count` is that of its fields after the first, even past those kept.
 #[inline(always)]
@@ -177,14 +190,12 @@ pub fn judge(kind: Kind, count: usize, field: &Fields, works: &Works) -> Result<
         Kind::Bought => {
             let process = number(field[0], PROCESS)? as usize;
             let kg = number(field[1], KILOS)?;
-            let direct = number(field[2], BOUGHT_FIGURE)?;
-            let indirect = number(field[3], BOUGHT_FIGURE)?;
+            let figures = figures(field[2], field[3])?;
             known(works, process)?;
             Ok(Entry::Bought {
                 process,
                 kg,
-                direct,
-                indirect,
+                figures,
             })
         }
         Kind::Good => {
@@ -201,7 +212,41 @@ pub fn judge(kind: Kind, count: usize, field: &Fields, works: &Works) -> Result<
             }
             Ok(Entry::Good { from, to, kg })
         }
+        Kind::PrecursorFigures => judge_precursor_figures(field, works),
+        Kind::PrecursorUse => judge_precursor_use(field, works),
     }
+}
+
+/// A K line names no process, so it may stand above all P lines. This and the
+/// next are never inlined: the writer of records is some hundredths slower where
+/// they are.
+#[inline(never)]
+fn judge_precursor_figures(field: &Fields, works: &Works) -> Result<Entry, Fault> {
+    let precursor = Precursor(number(field[0], PRECURSOR)? as u8);
+    let rank = number(field[1], RANK)? as usize;
+    let figures = figures(field[2], field[3])?;
+    if works.has_stated(precursor, rank) {
+        return Err(Fault::SecondOfRank);
+    }
+    Ok(Entry::PrecursorFigures {
+        precursor,
+        rank,
+        figures,
+    })
+}
+
+/// Whether the precursor has figures shows only once all lines have passed.
+#[inline(never)]
+fn judge_precursor_use(field: &Fields, works: &Works) -> Result<Entry, Fault> {
+    let process = number(field[0], PROCESS)? as usize;
+    let precursor = Precursor(number(field[1], PRECURSOR)? as u8);
+    let kg = number(field[2], KILOS)?;
+    known(works, process)?;
+    Ok(Entry::PrecursorUse {
+        process,
+        precursor,
+        kg,
+    })
 }
 
 fn judge_stream(field: &Fields, works: &Works) -> Result<Entry, Fault> {
@@ -286,6 +331,15 @@ fn number_or_dash(field: Field, range: RangeInclusive<u64>) -> Result<Option<u64
     } else {
         number(field, range).map(Some)
     }
+}
+
+/// Specific figures of a precursor, as B and K lines have them.
+#[inline]
+fn figures(direct: Field, indirect: Field) -> Result<Figures, Fault> {
+    Ok(Figures {
+        direct: number(direct, BOUGHT_FIGURE)?,
+        indirect: number(indirect, BOUGHT_FIGURE)?,
+    })
 }
 
 #[inline]

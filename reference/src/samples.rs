@@ -81,11 +81,15 @@ pub const KILOWATT_HOURS: u64 = 100_000_000_000;
 /// Makes a good sheet line by line.
 pub struct Maker {
     pub sheet: Vec<u8>,
+    /// Bytes of the P lines.
+    head: usize,
     size: Size,
     /// kg of each process's output that no G line has taken.
     free: Vec<u64>,
     /// Pairs that have a G line.
     pairs: Vec<(usize, usize)>,
+    /// Precursors and ranks that have a K line.
+    stated: Vec<(u64, u64)>,
 }
 
 impl Maker {
@@ -99,10 +103,12 @@ impl Maker {
             free.push(output);
         }
         Maker {
+            head: sheet.len(),
             sheet,
             size,
             free,
             pairs: Vec::new(),
+            stated: Vec::new(),
         }
     }
 
@@ -128,8 +134,17 @@ impl Maker {
         }
     }
 
-    /// Adds a line of any kind but P.
+    /// Adds a line of any kind but P, now and then with a K line that it needs.
     pub fn line(&mut self, dice: &mut Dice) {
+        match dice.below(10) {
+            0 => self.precursor_use(dice),
+            1 => self.precursor_figures(dice),
+            _ => self.line_of_document_01(dice),
+        }
+    }
+
+    /// Adds a line of any kind of document 01 but P.
+    pub fn line_of_document_01(&mut self, dice: &mut Dice) {
         match dice.below(9) {
             0..3 => self.stream(dice),
             3 => self.heat(dice),
@@ -248,6 +263,52 @@ impl Maker {
         self.bought(dice);
     }
 
+    /// A K line; an N line where the rank is stated already.
+    pub fn precursor_figures(&mut self, dice: &mut Dice) {
+        let precursor = any_precursor(dice);
+        let rank = dice.between(1, 3);
+        if self.stated.contains(&(precursor, rank)) {
+            self.precursor_use_of(dice, precursor);
+        } else {
+            self.state(dice, precursor, rank);
+        }
+    }
+
+    /// An N line, and a K line where its precursor has none so far.
+    pub fn precursor_use(&mut self, dice: &mut Dice) {
+        let precursor = any_precursor(dice);
+        self.precursor_use_of(dice, precursor);
+    }
+
+    fn precursor_use_of(&mut self, dice: &mut Dice, precursor: u64) {
+        let n = self.process(dice);
+        let kg = self.number(dice, 1, KILOS);
+        self.put(dice, &format!("N,{n},{precursor},{kg}\n"));
+        if self.stated.iter().all(|stated| stated.0 != precursor) {
+            let rank = dice.between(1, 3);
+            self.state(dice, precursor, rank);
+        }
+    }
+
+    fn state(&mut self, dice: &mut Dice, precursor: u64, rank: u64) {
+        let direct = self.number(dice, 0, 100_000_000);
+        let indirect = self.number(dice, 0, 100_000_000);
+        self.put(dice, &format!("K,{precursor},{rank},{direct},{indirect}\n"));
+        self.stated.push((precursor, rank));
+    }
+
+    /// Puts a line at the end or in front of any line but a P line, so that a K
+    /// line stands above its uses or below them.
+    fn put(&mut self, dice: &mut Dice, line: &str) {
+        let at = match dice.below(2) {
+            0 => self.sheet.len(),
+            _ => self.head + dice.index(self.sheet.len() - self.head + 1),
+        };
+        let end = self.sheet[..at].iter().rposition(|byte| *byte == b'\n');
+        let start = end.map_or(0, |end| end + 1);
+        self.sheet.splice(start..start, line.bytes());
+    }
+
     /// Adds lines of any kind until the sheet has exactly `length` bytes.
     pub fn fill(&mut self, dice: &mut Dice, length: usize) {
         while self.sheet.len() + 160 < length {
@@ -257,7 +318,30 @@ impl Maker {
     }
 }
 
-/// A good sheet of P lines and `lines` others.
+/// A precursor, mostly one of a few, so that several lines name it.
+fn any_precursor(dice: &mut Dice) -> u64 {
+    match dice.below(8) {
+        0 => dice.between(1, 255),
+        1 => 255,
+        _ => dice.between(1, 3),
+    }
+}
+
+/// A K line for each of 255 precursors and three ranks, in any order.
+pub fn every_figure(dice: &mut Dice, size: Size) -> Vec<String> {
+    let mut lines = Vec::new();
+    for precursor in 1..=255 {
+        for rank in 1..=3 {
+            let direct = size.number(dice, 0, 100_000_000);
+            let indirect = size.number(dice, 0, 100_000_000);
+            lines.push(format!("K,{precursor},{rank},{direct},{indirect}\n"));
+        }
+    }
+    dice.shuffle(&mut lines);
+    lines
+}
+
+/// A good sheet of P lines and `lines` others, and of K lines that these need.
 pub fn mixed_sheet(dice: &mut Dice, processes: usize, lines: usize, size: Size) -> Vec<u8> {
     let mut maker = Maker::new(dice, processes, size);
     for _ in 0..lines {

@@ -24,6 +24,8 @@ pub enum Kind {
     Power,
     Bought,
     Good,
+    PrecursorFigures,
+    PrecursorUse,
 }
 
 impl Kind {
@@ -37,6 +39,8 @@ impl Kind {
             b'E' => Kind::Power,
             b'B' => Kind::Bought,
             b'G' => Kind::Good,
+            b'K' => Kind::PrecursorFigures,
+            b'N' => Kind::PrecursorUse,
             _ => return None,
         })
     }
@@ -46,8 +50,8 @@ impl Kind {
         match self {
             Kind::Process => 2,
             Kind::Stream => 8,
-            Kind::Heat | Kind::Power | Kind::Bought => 4,
-            Kind::Gas | Kind::Good => 3,
+            Kind::Heat | Kind::Power | Kind::Bought | Kind::PrecursorFigures => 4,
+            Kind::Gas | Kind::Good | Kind::PrecursorUse => 3,
         }
     }
 }

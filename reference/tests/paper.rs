@@ -380,6 +380,8 @@ fn table_of_refusals() {
     refused("P,1,5\nP,2,5\nG,1,2,1\nG,1,2,1\n", 12, 4);
     refused("P,1,5\nP,2,5\nG,1,2,6\n", 13, 3);
     refused("", 14, 0);
+    refused("K,1,1,5,5\nK,1,1,5,5\n", 17, 2);
+    refused("P,1,5\nN,1,1,5\n", 18, 2);
     let mut space = [7; 10];
     let outcome = report_into(EXAMPLE.as_bytes(), &mut space);
     assert_eq!(
@@ -570,7 +572,7 @@ fn near_misses_of_every_range() {
     const KILOS: (u64, u64) = (1, 10_000_000_000);
     const MJ: (u64, u64) = (1, 1_000_000_000_000);
     type Ranges = &'static [(usize, (u64, u64))];
-    let kinds: [(&str, &[&str], Ranges); 10] = [
+    let kinds: [(&str, &[&str], Ranges); 12] = [
         ("P", &["2", "5"], &[(1, KILOS)]),
         (
             "S",
@@ -633,6 +635,17 @@ fn near_misses_of_every_range() {
             &[(1, KILOS), (2, (0, 100_000_000)), (3, (0, 100_000_000))],
         ),
         ("G", &["0", "0", "1"], &[(2, KILOS)]),
+        (
+            "K",
+            &["1", "1", "1", "1"],
+            &[
+                (0, (1, 255)),
+                (1, (1, 3)),
+                (2, (0, 100_000_000)),
+                (3, (0, 100_000_000)),
+            ],
+        ),
+        ("N", &["1", "1", "1"], &[(1, (1, 255)), (2, KILOS)]),
     ];
     for (kind, fields, limits) in kinds {
         for (index, (lowest, highest)) in limits {
@@ -642,11 +655,12 @@ fn near_misses_of_every_range() {
                 format!("P,1,10000000000\n{kind},{}\n", fields.join(","))
             };
             for value in [*lowest, *highest] {
-                // G with both ends 0 passes all ranges and is refused by 10.
-                if kind == "G" {
-                    refused(&with(&value.to_string()), 10, 2);
-                } else {
-                    accepted(&with(&value.to_string()));
+                // G with both ends 0 passes all ranges and is refused by 10, N
+                // without a K line by 18.
+                match kind {
+                    "G" => refused(&with(&value.to_string()), 10, 2),
+                    "N" => refused(&with(&value.to_string()), 18, 2),
+                    _ => drop(accepted(&with(&value.to_string()))),
                 }
             }
             if *lowest > 0 {

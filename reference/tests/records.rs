@@ -25,6 +25,8 @@ fn field_count(letter: u64) -> Option<usize> {
         "E,from,to,kWh,factor",
         "B,n,kg,direct,indirect",
         "G,from,to,kg",
+        "K,precursor,rank,direct,indirect",
+        "N,process,precursor,kg",
     ];
     lines
         .iter()
@@ -224,6 +226,52 @@ fn refusals_of_the_table() {
     refused(&bad, 7, 4_096);
 }
 
+/// Ticket 4: K and N lines as records, and the refusals 17 and 18.
+#[test]
+fn precursors() {
+    let one: (u8, &[u64]) = (b'P', &[1, 5]);
+    let verified: (u8, &[u64]) = (b'K', &[255, 1, 9, 100_000_000]);
+    let default: (u8, &[u64]) = (b'K', &[255, 3, 0, 0]);
+    let used: (u8, &[u64]) = (b'N', &[1, 255, 10_000_000_000]);
+    let list: Vec<u64> = [
+        [80, 1, 5, 0, 0, 0, 0, 0, 0],
+        [78, 1, 255, 10_000_000_000, 0, 0, 0, 0, 0],
+        [75, 255, 3, 0, 0, 0, 0, 0, 0],
+        [75, 255, 1, 9, 100_000_000, 0, 0, 0, 0],
+    ]
+    .concat();
+    assert_eq!(list, records(&[one, used, default, verified]));
+    let sheet = "P,1,5\nN,1,255,10000000000\nK,255,3,0,0\nK,255,1,9,100000000\n";
+    spells(&list, sheet);
+    goes_round(sheet.as_bytes());
+    // K lines alone, which need no P line.
+    spells(&records(&[default]), "K,255,3,0,0\n");
+    goes_round(b"K,1,2,0,7\nK,1,1,7,0\n");
+
+    refused(&records(&[one, verified, default, verified]), 17, 4);
+    refused(&records(&[verified, verified, one]), 17, 2);
+    refused(&records(&[one, used, one]), 8, 3);
+    refused(&records(&[one, used, used]), 18, 2);
+    refused(
+        &records(&[one, verified, (b'N', &[1, 254, 1]), used]),
+        18,
+        3,
+    );
+    refused(&records(&[verified, one]), 8, 2);
+    refused(&records(&[verified, used]), 9, 2);
+    refused(&records(&[one, (b'K', &[256, 1, 9, 9])]), 7, 2);
+    refused(&records(&[one, (b'K', &[1, 4, 9, 9])]), 7, 2);
+    refused(&records(&[one, (b'K', &[1, 1, DASH, 9])]), 6, 2);
+    refused(&records(&[one, (b'K', &[1, 1, 9, 9, 1])]), 5, 2);
+    refused(&records(&[one, (b'N', &[1, 0, 9])]), 7, 2);
+    refused(&records(&[one, (b'N', &[1, 1, 9, 1])]), 5, 2);
+    // 18 before the space, which is too short for any sheet.
+    let mut space = [0xaa; 5];
+    let written = write_sheet(&records(&[one, used]), &mut space);
+    assert_eq!((written.number, written.line), (18, 2));
+    assert_eq!(read_sheet(b"P,1,5\nN,1,7,1\n", &mut []).number, 18);
+}
+
 #[test]
 fn limits_of_bytes() {
     let mut dice = Dice::new(11);
@@ -371,7 +419,7 @@ fn spaces_and_lists() {
 #[test]
 fn made_up_lists() {
     let mut dice = Dice::new(12);
-    let mut counts = [0; 17];
+    let mut counts = [0; 19];
     for round in 0..24_000 {
         let way = Way::ALL[round % 8];
         let list = record_list(&mut dice, way);
@@ -407,7 +455,7 @@ fn made_up_sheets() {
             let at = dice.index(sheet.len());
             match dice.below(3) {
                 0 => sheet.truncate(at),
-                1 => sheet[at] = dice.pick(b"PSHWEBG0123456789,\n-x"),
+                1 => sheet[at] = dice.pick(b"PSHWEBGKN0123456789,\n-x"),
                 _ => sheet[at] = dice.pick(b"0123456789"),
             }
         }

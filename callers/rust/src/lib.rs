@@ -54,7 +54,7 @@ pub use report::Report;
 /// The answer to a sheet or to records, and a lent space, as [`report_into`] and [`write_into`] give it.
 #[derive(Clone, Copy, Debug, PartialEq, Eq, Hash)]
 pub struct Answer {
-    /// 0 for an accepted sheet, or else the refusal's number, 1 to 16.
+    /// 0 for an accepted sheet, or else the refusal's number, 1 to 18.
     pub number: u64,
     /// The number of the offending line, the first being 1; 0 for a refusal of the whole sheet and for an accepted one.
     pub line: usize,

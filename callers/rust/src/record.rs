@@ -13,11 +13,13 @@ const W: u64 = b'W' as u64;
 const E: u64 = b'E' as u64;
 const B: u64 = b'B' as u64;
 const G: u64 = b'G' as u64;
+const K: u64 = b'K' as u64;
+const N: u64 = b'N' as u64;
 
 /// A record: a line of a sheet, with its fields in the line's order.
 ///
-/// A process is a number from 1 to 16. `from` and `to` are processes too, or 0 for the outside of the works. No number is
-/// checked here: [`write`](crate::write()) judges all of them.
+/// A process is a number from 1 to 16. `from` and `to` are processes too, or 0 for the outside of the works. The precursor
+/// of a K or an N line is a number from 1 to 255. No number is checked here: [`write`](crate::write()) judges all of them.
 ///
 /// Every `u64` in a field is a number. [`u64::MAX`] is out of range in each field, so a record with it is refused by 7,
 /// as the line with the number 18446744073709551615 is. Only `None` is the standard value.
@@ -122,6 +124,26 @@ pub enum Record {
         /// Its mass in kg.
         mass: u64,
     },
+    /// `K`: figures stated for a bought precursor. Of those of one precursor the lowest rank number governs, wherever it stands.
+    PrecursorFigures {
+        /// The number of the precursor.
+        precursor: u64,
+        /// 1 for verified figures, 2 for the supplier's own, 3 for the published default.
+        rank: u64,
+        /// Its specific direct emissions in mg/kg.
+        direct: u64,
+        /// Its specific indirect emissions in mg/kg.
+        indirect: u64,
+    },
+    /// `N`: use of a bought precursor by its governing figures.
+    PrecursorUse {
+        /// The process that uses it.
+        process: u64,
+        /// The number of the precursor.
+        precursor: u64,
+        /// Its mass in kg.
+        mass: u64,
+    },
 }
 
 impl Record {
@@ -175,6 +197,17 @@ impl Record {
                 indirect,
             } => spell(B, &[process, mass, direct, indirect].map(Some)),
             Record::OwnGood { from, to, mass } => spell(G, &[from, to, mass].map(Some)),
+            Record::PrecursorFigures {
+                precursor,
+                rank,
+                direct,
+                indirect,
+            } => spell(K, &[precursor, rank, direct, indirect].map(Some)),
+            Record::PrecursorUse {
+                process,
+                precursor,
+                mass,
+            } => spell(N, &[process, precursor, mass].map(Some)),
         }
     }
 
@@ -226,6 +259,17 @@ impl Record {
                 indirect,
             },
             [G, from, to, mass, 0, 0, 0, 0, 0] => Record::OwnGood { from, to, mass },
+            [K, precursor, rank, direct, indirect, 0, 0, 0, 0] => Record::PrecursorFigures {
+                precursor,
+                rank,
+                direct,
+                indirect,
+            },
+            [N, process, precursor, mass, 0, 0, 0, 0, 0] => Record::PrecursorUse {
+                process,
+                precursor,
+                mass,
+            },
             _ => return None,
         };
         // A field that has no standard value would hold STANDARD as a number, whose word is another.

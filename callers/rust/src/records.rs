@@ -12,7 +12,7 @@ const MOST_LINES: usize = 4096;
 /// The answer to a sheet and a lent list, as [`read_into`] gives it.
 #[derive(Clone, Copy, Debug, PartialEq, Eq, Hash)]
 pub struct Counted {
-    /// 0 for an accepted sheet, or else the refusal's number, 1 to 16.
+    /// 0 for an accepted sheet, or else the refusal's number, 1 to 18.
     pub number: u64,
     /// The number of the offending line, the first being 1; 0 for a refusal of the whole sheet and for an accepted one.
     pub line: usize,

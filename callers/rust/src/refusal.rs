@@ -82,6 +82,8 @@ pub fn meaning(number: u64) -> Option<&'static str> {
         14 => "empty sheet",
         15 => "a whole-gram figure of the report, its sign aside, is 2^63 or more",
         16 => "space or list too short",
+        17 => "second K line of a precursor and rank",
+        18 => "precursor without a K line",
         _ => return None,
     })
 }
@@ -104,10 +106,10 @@ mod tests {
     }
 
     #[test]
-    fn sixteen_numbers_have_a_meaning() {
+    fn eighteen_numbers_have_a_meaning() {
         let known: Vec<u64> = (0..100)
             .filter(|number| meaning(*number).is_some())
             .collect();
-        assert_eq!(known, (1..=16).collect::<Vec<u64>>());
+        assert_eq!(known, (1..=18).collect::<Vec<u64>>());
     }
 }

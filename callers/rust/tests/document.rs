@@ -1,4 +1,4 @@
-//! The examples of document 01: its sheet, its table of refusals, what it accepts; a case of document 02; and the works in
+//! The examples of document 01: its sheet, its table of refusals, what it accepts; cases of document 02; and the works in
 //! example/.
 
 use wiltoresh::{longest, report, report_into, Answer, Refusal};
@@ -18,7 +18,7 @@ T,3107800,3107800,0,0
 ";
 
 /// Number, line, the line's text and the sheet. Rows 1, 2 and 16 need long sheets or a short space: below.
-const REFUSED: [(u64, usize, &[u8], &[u8]); 12] = [
+const REFUSED: [(u64, usize, &[u8], &[u8]); 14] = [
     (3, 1, b"P,1,5", b"P,1,5"),
     (4, 1, b"", b"\n"),
     (5, 1, b"P,1", b"P,1\n"),
@@ -31,6 +31,8 @@ const REFUSED: [(u64, usize, &[u8], &[u8]); 12] = [
     (12, 4, b"G,1,2,1", b"P,1,5\nP,2,5\nG,1,2,1\nG,1,2,1\n"),
     (13, 3, b"G,1,2,6", b"P,1,5\nP,2,5\nG,1,2,6\n"),
     (14, 0, b"", b""),
+    (17, 2, b"K,1,1,6,6", b"K,1,1,5,5\nK,1,1,6,6\n"),
+    (18, 2, b"N,1,1,5", b"P,1,5\nN,1,1,5\n"),
 ];
 
 fn parts(refusal: Refusal<'_>) -> (u64, usize, &[u8]) {
@@ -63,6 +65,16 @@ fn biomass_in_a_mass_balance() {
     let given =
         report(b"P,1,5\nS,1,3,0,3,1000,0,10000,5000\nS,1,4,0,1,1000,0,10000,5000\n").unwrap();
     assert_eq!(given.as_bytes(), expected);
+}
+
+/// Document 02, ticket 4: 100 kg at the verified 1,900,000 and 250,000 mg/kg, stated below the default and the use.
+#[test]
+fn figures_of_a_bought_precursor() {
+    let expected = b"R,1,0,0,0,190000,25000,190000,25000,190.000,25.000\nT,215000,215000,0,0\n";
+    let given =
+        report(b"P,1,1000\nK,7,3,2500000,400000\nN,1,7,100\nK,7,1,1900000,250000\n").unwrap();
+    assert_eq!(given.as_bytes(), expected);
+    assert_eq!(report(b"K,7,1,5,5\n").unwrap().as_bytes(), b"T,0,0,0,0\n");
 }
 
 #[test]

@@ -19,7 +19,7 @@ fn every_line_of_the_example() {
 fn lines_that_a_sheet_has_not() {
     let end = SHEET.len();
     assert_eq!(line_place(SHEET, 0), 0..0);
-    for line in [40, 41, usize::MAX] {
+    for line in [42, 43, usize::MAX] {
         assert_eq!(line_place(SHEET, line), end..end);
     }
     for line in [0, 1, usize::MAX] {
@@ -48,7 +48,7 @@ fn text_of_the_last_line() {
     let mut sheet = SHEET.to_vec();
     sheet.extend(b"G,4,3,1\n");
     let refusal = report(&sheet).unwrap_err();
-    assert_eq!((refusal.number(), refusal.line()), (10, 40));
+    assert_eq!((refusal.number(), refusal.line()), (10, 42));
     assert_eq!(refusal.text(), b"G,4,3,1");
 }
 
@@ -56,7 +56,7 @@ fn text_of_the_last_line() {
 fn text_of_a_last_line_without_its_end() {
     let sheet = SHEET.strip_suffix(b"\n").unwrap();
     let refusal = report(sheet).unwrap_err();
-    assert_eq!((refusal.number(), refusal.line()), (3, 39));
+    assert_eq!((refusal.number(), refusal.line()), (3, 41));
     assert_eq!(refusal.text(), b"G,3,4,208000000");
 }
 

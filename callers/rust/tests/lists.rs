@@ -6,7 +6,7 @@ use std::thread;
 use wiltoresh::{read_into, write_into, Answer, Counted, RECORD_WORDS, STANDARD};
 
 const WORKS: &[u8] = include_bytes!("../../../example/works.csv");
-const LINES: usize = 39;
+const LINES: usize = 41;
 
 const ACCEPTED: Answer = Answer {
     number: 0,
@@ -124,6 +124,8 @@ fn refusals_of_a_list() {
     refused(&words(&[one, two, own, own]), 12, 4);
     refused(&words(&[one, two, (b'G', &[1, 2, 6])]), 13, 3);
     refused(&[], 14, 0);
+    refused(&words(&[(b'K', &[7, 1]), (b'K', &[7, 1, 5])]), 17, 2);
+    refused(&words(&[one, (b'N', &[1, 7, 5])]), 18, 2);
 }
 
 #[test]
@@ -252,7 +254,7 @@ fn part_of_a_list_is_lent() {
 fn refusals_of_a_sheet() {
     let long = b"P,1,5\n".repeat(10_923);
     let many = [&b"P,1,5\n"[..], &b"W,0,1,1\n".repeat(4096)].concat();
-    let refusals: [(u64, usize, &[u8]); 14] = [
+    let refusals: [(u64, usize, &[u8]); 16] = [
         (1, 0, &long),
         (2, 4097, &many),
         (3, 1, b"P,1,5"),
@@ -267,6 +269,8 @@ fn refusals_of_a_sheet() {
         (12, 4, b"P,1,5\nP,2,5\nG,1,2,1\nG,1,2,1\n"),
         (13, 3, b"P,1,5\nP,2,5\nG,1,2,6\n"),
         (14, 0, b""),
+        (17, 2, b"K,1,1,5,5\nK,1,1,6,6\n"),
+        (18, 2, b"P,1,5\nN,1,1,5\n"),
     ];
     for (number, line, sheet) in refusals {
         for length in [0, 8, 36_864] {

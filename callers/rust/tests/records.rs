@@ -4,7 +4,7 @@ use wiltoresh::{read, report, write, Record, STANDARD};
 
 const WORKS: &[u8] = include_bytes!("../../../example/works.csv");
 
-/// The sheet of document 01.
+/// The sheet of document 01, and a line of each kind of document 02.
 const SHEET: &[u8] = b"P,1,1000
 P,2,400
 S,1,1,16,1000,-,-,10000,0
@@ -12,9 +12,11 @@ H,1,2,10000,56100
 E,0,2,500,400000
 B,2,100,1900000,250000
 G,1,2,300
+K,9,2,1700000,200000
+N,2,9,50
 ";
 
-const RECORDS: [Record; 7] = [
+const RECORDS: [Record; 9] = [
     Record::Process {
         number: 1,
         output: 1000,
@@ -56,6 +58,17 @@ const RECORDS: [Record; 7] = [
         to: 2,
         mass: 300,
     },
+    Record::PrecursorFigures {
+        precursor: 9,
+        rank: 2,
+        direct: 1_700_000,
+        indirect: 200_000,
+    },
+    Record::PrecursorUse {
+        process: 2,
+        precursor: 9,
+        mass: 50,
+    },
 ];
 
 fn process(number: u64, output: u64) -> Record {
@@ -75,6 +88,23 @@ fn good(mass: u64) -> Record {
         from: 1,
         to: 2,
         mass,
+    }
+}
+
+fn figures(rank: u64) -> Record {
+    Record::PrecursorFigures {
+        precursor: 255,
+        rank,
+        direct: 0,
+        indirect: 100_000_000,
+    }
+}
+
+fn used(precursor: u64) -> Record {
+    Record::PrecursorUse {
+        process: 1,
+        precursor,
+        mass: 9,
     }
 }
 
@@ -125,9 +155,25 @@ fn records_with_a_measured_value_and_waste_gas() {
 }
 
 #[test]
+fn records_of_precursors() {
+    let records = [
+        process(1, 5),
+        used(255),
+        figures(3),
+        figures(1),
+        figures(2),
+        used(255),
+    ];
+    let sheet = b"P,1,5\nN,1,255,9\nK,255,3,0,100000000\nK,255,1,0,100000000\nK,255,2,0,100000000\nN,1,255,9\n";
+    assert_eq!(write(&records).unwrap(), sheet);
+    assert_eq!(read(sheet).unwrap(), records);
+    assert_eq!(write(&records[2..5]).unwrap(), &sheet[16..76]);
+}
+
+#[test]
 fn example_works() {
     let records = read(WORKS).unwrap();
-    assert_eq!(records.len(), 39);
+    assert_eq!(records.len(), 41);
     assert_eq!(records[3], process(4, 200_000_000));
     assert_eq!(write(&records).unwrap(), WORKS);
 }
@@ -145,6 +191,8 @@ fn refusals_of_records() {
     refused(&[one, two, good(1), good(1)], 12, 4);
     refused(&[one, two, good(6)], 13, 3);
     refused(&[], 14, 0);
+    refused(&[one, figures(1), figures(2), figures(1)], 17, 4);
+    refused(&[one, used(255), used(254), figures(3), used(253)], 18, 3);
     assert_eq!(
         write(&[one, gas(1, 2, 9)]).unwrap_err().to_string(),
         "refused by 9 at line 2: process without a P line above it"
@@ -235,6 +283,17 @@ fn numbers(record: &mut Record) -> Vec<&mut u64> {
             indirect,
         } => vec![process, mass, direct, indirect],
         Record::OwnGood { from, to, mass } => vec![from, to, mass],
+        Record::PrecursorFigures {
+            precursor,
+            rank,
+            direct,
+            indirect,
+        } => vec![precursor, rank, direct, indirect],
+        Record::PrecursorUse {
+            process,
+            precursor,
+            mass,
+        } => vec![process, precursor, mass],
     }
 }
 

@@ -16,7 +16,8 @@ use Rattle.quantity.proofs.Weights.{credit_below_charge}
 use Rattle.lines.specs.Records.{Record, number_at}
 use Rattle.sheet.specs.Kinds.{kind, is, rules}
 use Rattle.sheet.specs.declared.Kind.{Kind}
-use Rattle.sheet.specs.declared.Kind.TheVariants.{Process, SourceStream, MeasurableHeat, WasteGas, Electricity, BoughtPrecursor, OwnGood, Unknown}
+use Rattle.sheet.specs.declared.Kind.TheVariants.{Process, SourceStream, MeasurableHeat, WasteGas, Electricity, BoughtPrecursor, OwnGood}
+use Rattle.sheet.specs.declared.Kind.TheVariants.{PrecursorFigures, PrecursorUse, Unknown}
 use Rattle.sheet.specs.Refusals.{process, from, to, has_process, missing_process, ends_not_allowed}
 use Rattle.sheet.specs.Ranges.{KeepsRanges}
 use Rattle.sheet.specs.Verdict.{All}
@@ -33,7 +34,7 @@ use Rattle.attribution.specs.Reckoning.{process_count, output, kilos_between}
 use Rattle.entries.proofs.Ranges.{in_rules}
 use Rattle.entries.proofs.Streams.{process_range, stream_range}
 
--- ---- what the records of every sheet have by which no row 1 to 14 applies
+-- ---- what the records of every sheet have by which no row 1 to 14, 17 or 18 applies
 
 -- a line of each kind, in a works of n processes
 abbrev pub ValidOf : (n : ℕ) → Kind → Record → Type 0
@@ -44,6 +45,8 @@ ValidOf n WasteGas r = (from r ≤ n) × (to r ≤ n) × (from r ≡ to r → �
 ValidOf n Electricity r = (from r ≤ n) × (to r ≤ n)
 ValidOf n BoughtPrecursor r = (1 ≤ process r) × (process r ≤ n)
 ValidOf n OwnGood r = (1 ≤ from r) × (from r < to r) × (to r ≤ n)
+ValidOf n PrecursorFigures r = Unit {0}
+ValidOf n PrecursorUse r = (1 ≤ process r) × (process r ≤ n)
 ValidOf n Unknown r = ⊥
 
 abbrev pub Valid : (n : ℕ) → Record → Type 0
@@ -115,6 +118,8 @@ parts_of i r = go (kind r) refl
     go Electricity e = simp e (omega (arith, none))
     go BoughtPrecursor e = simp e (omega (arith, none))
     go OwnGood e = simp e (omega (arith, none))
+    go PrecursorFigures e = simp e (omega (arith, none))
+    go PrecursorUse e = simp e (omega (arith, none))
     go Unknown e = simp e (omega (arith, none))
 
 -- ---- a valid line makes an even entry
@@ -162,6 +167,8 @@ even_of n Electricity r e v = omega (arith, at_none 0 0, at_le 0 (from r) (elect
 even_of n BoughtPrecursor r e v =
     omega (arith, at_none 0 0, at_outside (process r) (bought_direct_of r) v.0, at_outside (process r) (bought_indirect_of r) v.0)
 even_of n OwnGood r e v = omega (arith, at_none 0 0)
+even_of n PrecursorFigures r e v = omega (arith, at_none 0 0)
+even_of n PrecursorUse r e v = omega (arith, at_none 0 0)
 even_of n Unknown r e v = absurd v
 
 pub valid_even : (n : ℕ) (r : Record) → Valid n r → Even n (entry r)
@@ -193,6 +200,8 @@ module _ (limits : Limits) (above : List Record) (n : ℕ) (named_in : (p : ℕ)
   valid_of OwnGood r e keeps p m a =
       let q = and_both (leb 1 (from r)) (ltb (from r) (to r)) (not-false (leb 1 (from r) && ltb (from r) (to r)) (rw e at a)) in
       (leb-true 1 (from r) q.0, ltb-true (from r) (to r) q.1, (both_named (from r) (to r) (rw e at m)).1)
+  valid_of PrecursorFigures r e keeps p m a = tt
+  valid_of PrecursorUse r e keeps p m a = (((in_rules limits r keeps PrecursorUse e).0 refl).low, one_named (process r) (rw e at m))
   valid_of Unknown r e keeps p m a = absurd (never (rw e at (sym keeps.known)))
 
 -- ---- its entry is small
@@ -259,6 +268,8 @@ grams_of limits Electricity r e keeps =
     omega (arith, electricity_le limits r keeps e, at_le 0 (from r) (electricity_of r), at_le 0 (to r) (electricity_of r))
 grams_of limits BoughtPrecursor r e keeps = let g = bought_le limits r keeps e in omega arith
 grams_of limits OwnGood r e keeps = omega arith
+grams_of limits PrecursorFigures r e keeps = omega arith
+grams_of limits PrecursorUse r e keeps = omega arith
 grams_of limits Unknown r e keeps = omega arith
 
 -- whatever the limits
@@ -290,6 +301,8 @@ small_of BoughtPrecursor r e keeps =
     let g = grams_of limits BoughtPrecursor r e keeps in
     omega (arith, (n.0 refl).high)
 small_of OwnGood r e keeps = let g = grams_of limits OwnGood r e keeps in omega arith
+small_of PrecursorFigures r e keeps = let g = grams_of limits PrecursorFigures r e keeps in omega arith
+small_of PrecursorUse r e keeps = let g = grams_of limits PrecursorUse r e keeps in omega arith
 small_of Unknown r e keeps = let g = grams_of limits Unknown r e keeps in omega arith
 
 pub small_entry : (r : Record) → KeepsRanges limits r → Small (entry r)

@@ -6,6 +6,11 @@ pub mod EveryKind
 pub mod Entries
 pub mod Valid
 pub mod Outside
+pub mod Governing
+pub mod Stated
+pub mod SameReckoning
+pub mod Precursors
+pub mod GovernedUses
 pub mod Works
 pub mod Exact
 pub mod Sheet

@@ -1,5 +1,5 @@
 -- ROW 15 NEVER APPLIES: where as many lines as are allowed, each of at most `line_grams`, stay below 2^63, so does every whole-gram figure of a
--- sheet by which no row 1 to 14 applies. Stated over the definitions alone. Assumes nothing.
+-- sheet by which no row 1 to 14, 17 or 18 applies. Stated over the definitions alone. Assumes nothing.
 use mathlib.Core.Path.{◌≡◌, refl, sym, ap, ◌∙◌}
 use mathlib.Core.Bool.{false}
 use mathlib.Core.List.{List, [], ◌∷◌, ◌++◌, map}
@@ -8,7 +8,7 @@ use native.Mathlib.Nat.{le_refl}
 use native.Mathlib.Omega.{arith}
 use borrow.Author.Tests.{lt-leb, ltb-false}
 use lib.IntN.{nat_abs}
-use lib.ListN.{length}
+use lib.ListN.{length, length-map}
 use Rattle.quantity.specs.Limits.{Limits, limits, whole_grams, line_grams}
 use Rattle.lines.specs.Lines.{Line, lines_of}
 use Rattle.lines.specs.Records.{Record, record_of, records_of}
@@ -26,12 +26,13 @@ use Rattle.entries.specs.Entries.{entry}
 use Rattle.attribution.specs.Attribution.{direct, indirect, raised, bought_direct, bought_indirect}
 use Rattle.attribution.specs.Reckoning.{Row, process_count, output, kilos_between, direct_pool, indirect_pool, direct_left, indirect_left}
 use Rattle.attribution.specs.Reckoning.{total_left, entered, total_raised, uncredited, row_of, rows_to, reckoning}
+use Rattle.attribution.specs.Governing.{as_bought, governed}
 use Rattle.attribution.proofs.EveryKind.{Accepted}
 use Rattle.attribution.specs.Verdict.{row_grams, rows_grams, any_from, figure_too_large, reckoner_checks}
 use Rattle.attribution.proofs.Differences.{diff_size}
-use Rattle.attribution.proofs.EveryKind.{small_grams}
 use Rattle.attribution.proofs.Entries.{figures, entered_is, forward}
-use Rattle.attribution.proofs.Valid.{sheet_accepted}
+use Rattle.attribution.proofs.Governing.{sheet_governed}
+use Rattle.attribution.proofs.Stated.{StatedWell, sheet_stated, bought_grams}
 use Rattle.attribution.proofs.Bounds.{into_processes, out_of_processes, into_pools_le, raised_le, sum_within}
 
 -- ---- the sums of all lines
@@ -145,37 +146,40 @@ module _ (rs : List Record) (ok : Accepted rs) (sums : SumsBelow rs) where
 -- ---- of every sheet
 
 module _ (limits : Limits) where
-  lines_few : (above : List Record) (ls : List Line) → length above ≤ limits.lines → PassedLines limits above ls
+  pub lines_few : (above : List Record) (ls : List Line) → length above ≤ limits.lines → PassedLines limits above ls
       → length above + length (map record_of ls) ≤ limits.lines
   lines_few above [] h p = omega arith
   lines_few above (l ∷ ls) h p =
       omega (arith, lines_few (record_of l ∷ above) ls (ltb-false limits.lines (suc (length above)) p.0.few) p.1)
 
-  lines_small : (above : List Record) (ls : List Line) → PassedLines limits above ls → All (λ r. SmallGrams (entry r)) (map record_of ls)
-  lines_small above [] p = tt
-  lines_small above (l ∷ ls) p = (small_grams limits (record_of l) p.0.ranges, lines_small (record_of l ∷ above) ls p.1)
+  lines_small : (rs : List Record) → StatedWell rs → (above : List Record) (ls : List Line) → PassedLines limits above ls
+      → All (λ r. SmallGrams (entry r)) (map (as_bought rs) (map record_of ls))
+  lines_small rs s above [] p = tt
+  lines_small rs s above (l ∷ ls) p = (bought_grams rs s (record_of l) limits p.0.ranges, lines_small rs s (record_of l ∷ above) ls p.1)
 
   module _ (room : limits.lines * line_grams < whole_grams) (sheet : List ℕ) where
     module _ (passed : All Passes (sheet_checks limits sheet)) where
-      pub sheet_sums : SumsBelow (records_of sheet)
-      unfolding records_of
+      pub sheet_sums : SumsBelow (governed (records_of sheet))
+      unfolding records_of governed
       sheet_sums =
+          let rs = records_of sheet in
           let lines = (sheet_passed limits sheet passed).lines in
           let few = lines_few [] (lines_of sheet) (omega arith) lines in
-          sums_below (map record_of (lines_of sheet)) (lines_small [] (lines_of sheet) lines) (omega arith)
+          sums_below (map (as_bought rs) rs) (lines_small rs (sheet_stated limits sheet passed) [] (lines_of sheet) lines)
+          (omega (arith, length-map rs (as_bought rs)))
 
       -- NO FIGURE IS 2^63 OR MORE
-      pub no_figure_too_large : figure_too_large (reckoning (records_of sheet)) ≡ false
-      no_figure_too_large = none_too_large (records_of sheet) (sheet_accepted limits sheet passed) sheet_sums
+      pub no_figure_too_large : figure_too_large (reckoning (governed (records_of sheet))) ≡ false
+      no_figure_too_large = none_too_large (governed (records_of sheet)) (sheet_governed limits sheet passed) sheet_sums
 
-    -- the verdict of rows 1 to 15 is that of rows 1 to 14
+    -- the verdict with row 15 is that without it
     pub never_fifteen : first_of (reckoner_checks limits sheet) ≡ first_of (sheet_checks limits sheet)
     unfolding reckoner_checks first_of
     never_fifteen = go (first_of (sheet_checks limits sheet)) refl
       where
         go : (v : Verdict) → first_of (sheet_checks limits sheet) ≡ v → first_of (reckoner_checks limits sheet) ≡ v
         go accepted e =
-            first_rest (sheet_checks limits sheet) (check 15 0 (figure_too_large (reckoning (records_of sheet))) ∷ []) e
+            first_rest (sheet_checks limits sheet) (check 15 0 (figure_too_large (reckoning (governed (records_of sheet)))) ∷ []) e
             ∙ rw (no_figure_too_large (accepted_passes (sheet_checks limits sheet) e))
         go (refused number line) e = first_here (sheet_checks limits sheet) _ number line e
 
@@ -186,4 +190,4 @@ fifteen_never_given = never_fifteen limits (omega arith)
 -- no sheet is refused by row 15
 pub no_fifteen : (sheet : List ℕ) (line : ℕ) → first_of (reckoner_checks limits sheet) ≡ refused 15 line → ⊥
 no_fifteen sheet line r =
-    never_by 15 (sheet_checks limits sheet) (sheet_another 15 (omega arith) limits sheet) line (sym (fifteen_never_given sheet) ∙ r)
+    never_by 15 (sheet_checks limits sheet) (sheet_another 15 (omega arith, omega arith) limits sheet) line (sym (fifteen_never_given sheet) ∙ r)

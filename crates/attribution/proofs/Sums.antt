@@ -1,6 +1,6 @@
 -- Laws of sums over records. Assumes nothing.
 use mathlib.Core.Path.{◌≡◌, refl, sym, ap, ap₂, ◌∙◌}
-use mathlib.Core.List.{List, [], ◌∷◌}
+use mathlib.Core.List.{List, [], ◌∷◌, ◌++◌, map}
 use Prim.Native.Nat.{ℕ, ◌+◌, ◌≤◌}
 use native.Mathlib.Omega.{arith}
 use lib.IntN.{ℤ, ◌+ℤ◌}
@@ -21,6 +21,24 @@ pub of_le : (f g : Record → ℕ) (rs : List Record) → ((r : Record) → f r 
 unfolding sum_of
 of_le f g [] h = omega arith
 of_le f g (r ∷ rs) h = omega (arith, h r, of_le f g rs h)
+
+-- every record turned into another: where a figure stays, and where it grows
+pub of_same : (f : Record → ℕ) (turn : Record → Record) → ((r : Record) → f (turn r) ≡ f r) → (rs : List Record) → sum_of f (map turn rs) ≡ sum_of f rs
+unfolding sum_of
+of_same f turn h [] = refl
+of_same f turn h (r ∷ rs) = omega (arith, h r, of_same f turn h rs)
+
+pub of_more : (f more : Record → ℕ) (turn : Record → Record) → ((r : Record) → f (turn r) ≡ f r + more r) → (rs : List Record)
+    → sum_of f (map turn rs) ≡ sum_of f rs + sum_of more rs
+unfolding sum_of
+of_more f more turn h [] = refl
+of_more f more turn h (r ∷ rs) = omega (arith, h r, of_more f more turn h rs)
+
+-- a record among others
+pub of_among : (f : Record → ℕ) (us : List Record) (r : Record) (vs : List Record) → sum_of f (us ++ (r ∷ vs)) ≡ f r + sum_of f (us ++ vs)
+unfolding sum_of
+of_among f [] r vs = refl
+of_among f (u ∷ us) r vs = omega (arith, of_among f us r vs)
 
 -- the two sums change places
 pub sum_swap : (n : ℕ) (f : ℕ → Record → ℕ) (rs : List Record) → sum_to n (λ k. sum_of (f k) rs) ≡ sum_of (λ r. sum_to n (λ k. f k r)) rs

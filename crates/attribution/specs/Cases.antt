@@ -1,8 +1,10 @@
--- Examples. They tell document 01's attributions, raising, pools and portions apart, with figures worked out by hand.
+-- Examples. They tell document 01's attributions, raising, pools and portions apart, and document 02's governing figures, with figures worked out
+-- by hand.
 use Rattle.std.specs.Prelude.{List, [], ◌∷◌, ◌++◌, ℕ, ℤ, pos, negsuc}
 use Prim.Native.String.{String}
 use Rattle.decimal.specs.Text.{bytes}
 use Rattle.lines.specs.Records.{records_of}
+use Rattle.attribution.specs.Governing.{governed}
 use Rattle.attribution.specs.Reckoning.{Reckoning, reckoning}
 use Rattle.attribution.specs.Verdict.{rows_grams}
 
@@ -25,7 +27,7 @@ abbrev gives : String → List ℕ → ℤ → Example
 gives sheet grams entered = record { sheet = sheet; expected = figures grams entered }
 
 abbrev pub found : Example → Figures
-found e = figures_of (reckoning (records_of (bytes e.sheet)))
+found e = figures_of (reckoning (governed (records_of (bytes e.sheet))))
 
 unfoldable pub examples : List Example
 examples =
@@ -86,4 +88,33 @@ examples =
     ∷ 0 ∷ 0 ∷ 0 ∷ 4 ∷ 2 ∷ 2 ∷ 1
     ∷ 0 ∷ 0 ∷ 0 ∷ 2 ∷ 1 ∷ 2 ∷ 1
     ∷ 12 ∷ 0 ∷ 0 ∷ []) (pos 12)
+    -- ticket 4: figures at three ranks, of which 1 governs, in two orders, and above and below the use: 3 kg are 6 g and round(1.5) g
+    ∷ gives "P,1,10\nK,7,3,9000,900\nK,7,1,2000,500\nK,7,2,4000,700\nN,1,7,3\n"
+    (0 ∷ 0 ∷ 0 ∷ 6 ∷ 2 ∷ 6 ∷ 2 ∷ 8 ∷ 0 ∷ 0 ∷ []) (pos 8)
+    ∷ gives "P,1,10\nN,1,7,3\nK,7,1,2000,500\nK,7,2,4000,700\nK,7,3,9000,900\n"
+    (0 ∷ 0 ∷ 0 ∷ 6 ∷ 2 ∷ 6 ∷ 2 ∷ 8 ∷ 0 ∷ 0 ∷ []) (pos 8)
+    -- 2 governs over 3, also where it is stated after the use: 12 g and round(2.1) g; 3 alone: 27 g and round(2.7) g
+    ∷ gives "P,1,10\nK,7,3,9000,900\nN,1,7,3\nK,7,2,4000,700\n"
+    (0 ∷ 0 ∷ 0 ∷ 12 ∷ 2 ∷ 12 ∷ 2 ∷ 14 ∷ 0 ∷ 0 ∷ []) (pos 14)
+    ∷ gives "P,1,10\nK,7,3,9000,900\nN,1,7,3\n"
+    (0 ∷ 0 ∷ 0 ∷ 27 ∷ 3 ∷ 27 ∷ 3 ∷ 30 ∷ 0 ∷ 0 ∷ []) (pos 30)
+    -- each line is rounded for itself: twice round(0.5) and twice round(0.4); the kilograms added first would give 1 g and round(0.8)
+    ∷ gives "P,1,10\nK,7,1,500,400\nN,1,7,1\nN,1,7,1\n"
+    (0 ∷ 0 ∷ 0 ∷ 2 ∷ 0 ∷ 2 ∷ 0 ∷ 2 ∷ 0 ∷ 0 ∷ []) (pos 2)
+    -- two precursors, each with its own figures, whichever process uses them
+    ∷ gives "P,1,10\nP,2,10\nK,1,2,3000,0\nK,2,1,5000,1000\nN,1,1,1\nN,2,2,2\nN,2,1,1\n"
+    (0 ∷ 0 ∷ 0 ∷ 3 ∷ 0 ∷ 3 ∷ 0
+    ∷ 0 ∷ 0 ∷ 0 ∷ 13 ∷ 2 ∷ 13 ∷ 2
+    ∷ 18 ∷ 0 ∷ 0 ∷ []) (pos 18)
+    -- a balance of −1 g is raised before what an N line buys is added, as with a B line
+    ∷ gives "P,1,5\nE,1,0,1,1000\nK,9,1,5000,7000\nN,1,9,1\n"
+    (0 ∷ 0 ∷ 1 ∷ 5 ∷ 7 ∷ 5 ∷ 7 ∷ 12 ∷ 1 ∷ 0 ∷ []) (pos 11)
+    -- a good passes on what an N line buys: half of 8 g and of 4 g
+    ∷ gives "P,1,2\nP,2,2\nK,3,1,4000,2000\nN,1,3,2\nG,1,2,1\n"
+    (0 ∷ 0 ∷ 0 ∷ 8 ∷ 4 ∷ 4 ∷ 2
+    ∷ 0 ∷ 0 ∷ 0 ∷ 4 ∷ 2 ∷ 4 ∷ 2
+    ∷ 12 ∷ 0 ∷ 0 ∷ []) (pos 12)
+    -- a K line that no N line needs, and K lines alone
+    ∷ gives "P,1,5\nK,9,1,5000,7000\n" (0 ∷ 0 ∷ 0 ∷ 0 ∷ 0 ∷ 0 ∷ 0 ∷ 0 ∷ 0 ∷ 0 ∷ []) (pos 0)
+    ∷ gives "K,9,1,5000,7000\nK,9,2,5000,7000\n" (0 ∷ 0 ∷ 0 ∷ []) (pos 0)
     ∷ []

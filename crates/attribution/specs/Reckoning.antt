@@ -8,6 +8,7 @@ use Rattle.goods.specs.Sums.{sum_to, only_at}
 use Rattle.attribution.specs.Sums.{sum_of_ℤ}
 use Rattle.entries.specs.Weighed.{stream_of, charge_of, credit_of, bought_direct_of, bought_indirect_of}
 use Rattle.attribution.specs.Attribution.{heat_in, heat_out, electricity_in, electricity_out, bought_direct, bought_indirect, raised, direct, indirect}
+use Rattle.attribution.specs.Governing.{governed}
 use Rattle.goods.specs.Goods.{pool_of, left_of}
 
 -- `G,from,to,kg`
@@ -116,6 +117,6 @@ module _ (records : List Record) where
     };
   }
 
--- the totals of a sheet
+-- the totals of a sheet: those of its records with the governing figures
 abbrev pub totals_of : (sheet : List ℕ) → Totals
-totals_of sheet = (reckoning (records_of sheet)).totals
+totals_of sheet = (reckoning (governed (records_of sheet))).totals

@@ -1,8 +1,9 @@
--- For the reader. Document 01, "Sheets sent back": row 15, after all lines.
+-- For the reader. Document 01, "Sheets sent back": row 15, after all lines and row 18.
 use Rattle.std.specs.Prelude.{Bool, false, ◌||◌, List, [], ◌∷◌, ◌++◌, ℕ, leb, nat_abs}
 use Rattle.quantity.specs.Limits.{Limits, whole_grams}
 use Rattle.lines.specs.Records.{records_of}
 use Rattle.sheet.specs.Verdict.{Check, check, sheet_checks}
+use Rattle.attribution.specs.Governing.{governed}
 use Rattle.attribution.specs.Reckoning.{Row, Totals, Reckoning, reckoning}
 
 -- the whole-gram figures of the report, their signs aside
@@ -24,6 +25,6 @@ any_from limit (g ∷ gs) = leb limit g || any_from limit gs
 unfoldable pub figure_too_large : Reckoning → Bool
 figure_too_large r = any_from whole_grams (rows_grams r.rows ++ total_grams r.totals)
 
--- 1 to 14, then 15
+-- 1 to 14, 17 and 18, then 15
 unfoldable pub reckoner_checks : Limits → (sheet : List ℕ) → List Check
-reckoner_checks limits sheet = sheet_checks limits sheet ++ (check 15 0 (figure_too_large (reckoning (records_of sheet))) ∷ [])
+reckoner_checks limits sheet = sheet_checks limits sheet ++ (check 15 0 (figure_too_large (reckoning (governed (records_of sheet)))) ∷ [])

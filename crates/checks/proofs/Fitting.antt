@@ -10,7 +10,7 @@ use lib.Dec.{eqb, leb}
 use lib.ListN.{get_or}
 use Rattle.decimal.proofs.Bools.{and_both}
 use Rattle.lines.specs.Words.{DASH, OTHER}
-use Rattle.sheet.specs.Kinds.{Rule}
+use Rattle.sheet.specs.Kinds.{Rule, ◌to◌}
 use Rattle.checks.specs.Steps.{word_number, words_number}
 use Rattle.checks.proofs.Chain.{else_zero}
 
@@ -41,6 +41,10 @@ word_fits rule d w h = go d (leb rule.lowest w && leb w rule.highest) refl (eqb 
     go false false p true s y h = absurd (omega arith)
     go d false p false s true h = absurd (omega arith)
     go d false p false s false h = absurd (omega arith)
+
+-- a word that no rule without `-` refuses is at most the highest number of the range
+pub word_at_most : (lowest highest w : ℕ) → word_number lowest highest false w ≡ 0 → w ≤ highest
+word_at_most lowest highest w h = (word_fits (lowest to highest) false w h).1
 
 pub words_fit : (k : ℕ) (rs : List Rule) (ws : List ℕ) → words_number k rs ws ≡ 0 → Fitting k rs ws
 unfolding words_number

@@ -11,6 +11,7 @@ use Rattle.checks.specs.declared.refusals.Refusal.TheVariants.{TooManyBytes, Too
 use Rattle.checks.specs.declared.refusals.Refusal.TheVariants.{WrongFieldCount, NotNumber, OutOfRange, ProcessNotNext}
 use Rattle.checks.specs.declared.refusals.Refusal.TheVariants.{MissingProcess, EndsNotAllowed, NoStandardValue, SecondOfPair}
 use Rattle.checks.specs.declared.refusals.Refusal.TheVariants.{OutputExceeded, EmptySheet, FigureTooLarge, SpaceTooShort}
+use Rattle.checks.specs.declared.refusals.Refusal.TheVariants.{SecondOfRank, NoFigures}
 
 -- no refusal has number 0
 pub some_number : (r : Refusal) → refusal_number r ≡ 0 → ⊥
@@ -30,6 +31,8 @@ some_number OutputExceeded e = absurd (omega (arith, e))
 some_number EmptySheet e = absurd (omega (arith, e))
 some_number FigureTooLarge e = absurd (omega (arith, e))
 some_number SpaceTooShort e = absurd (omega (arith, e))
+some_number SecondOfRank e = absurd (omega (arith, e))
+some_number NoFigures e = absurd (omega (arith, e))
 
 -- what is judged, and the same after `map_err`, where a refusal becomes one with its line
 module _ (Made : Refusal → Refused → Type 0) where

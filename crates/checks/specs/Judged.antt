@@ -6,8 +6,8 @@ use Rattle.lines.specs.Words.{DASH}
 use Rattle.quantity.specs.Limits.{Limits}
 use Rattle.sheet.specs.Kinds.{letter, Rule, ◌to◌, method_rules, rules, named_fields, ends_of}
 use Rattle.sheet.specs.declared.Kind.{Kind}
-use Rattle.sheet.specs.declared.Kind.TheVariants.{Process, SourceStream, OwnGood, Unknown}
-use Rattle.checks.specs.Steps.{or_else, words_number}
+use Rattle.sheet.specs.declared.Kind.TheVariants.{Process, SourceStream, OwnGood, PrecursorFigures, Unknown}
+use Rattle.checks.specs.Steps.{or_else, words_number, is_stated}
 use Rattle.checks.specs.declared.above.Above.{Above}
 
 -- ---- 4 to 7
@@ -28,7 +28,7 @@ fields_number limits kind count words =
     cond (eqb (letter kind) (letter Unknown)) 4
     (cond (eqb count (length (word_rules limits kind words))) (words_number 0 (word_rules limits kind words) words) 5)
 
--- ---- 8 to 13
+-- ---- 8 to 13 and 17
 
 -- 8: `processes` of the lines above are P lines
 abbrev pub not_next : Kind → (n : ℕ) → Above → Bool
@@ -52,6 +52,10 @@ second kind above = eqb (letter kind) (letter OwnGood) && not (eqb above.pair.0 
 abbrev pub exceeded : Kind → (kg : ℕ) → Above → Bool
 exceeded kind kg above = eqb (letter kind) (letter OwnGood) && ltb above.output.0 (above.taken.0 + kg)
 
+-- 17: a K line above states the same rank of the same precursor
+abbrev pub stated : Kind → (rank : ℕ) → Above → Bool
+stated kind rank above = eqb (letter kind) (letter PrecursorFigures) && is_stated above.ranks rank
+
 unfoldable pub order_number : Kind → (words : List ℕ) → Above → ℕ
 order_number kind words above =
     cond (not_next kind (get_or words 0 0) above) 8
@@ -59,8 +63,9 @@ order_number kind words above =
     (cond (ends_of kind (get_or words 0 0) (get_or words 1 0)) 10
     (cond (no_standard kind (get_or words 2 0) (get_or words 4 0) (get_or words 5 0)) 11
     (cond (second kind above) 12
-    (cond (exceeded kind (get_or words 2 0) above) 13 0)))))
+    (cond (exceeded kind (get_or words 2 0) above) 13
+    (cond (stated kind (get_or words 1 0) above) 17 0))))))
 
--- ---- 4 to 13 of a line of this kind
+-- ---- 4 to 13 and 17 of a line of this kind
 abbrev pub kind_number : Limits → Kind → (count : ℕ) → (words : List ℕ) → Above → ℕ
 kind_number limits kind count words above = or_else (fields_number limits kind count words) (order_number kind words above)

@@ -1,4 +1,4 @@
--- For the reader. Document 01, "Sheets sent back": the number of each refusal, and 0 where nothing is refused.
+-- For the reader. Document 01, "Sheets sent back", and document 02, ticket 4: the number of each refusal, and 0 where nothing is refused.
 use Rattle.std.specs.Prelude.{ℕ, Result, Ok, Err, ⊤}
 use Rattle.sheet.specs.Verdict.{Verdict, refused}
 use Rattle.checks.specs.declared.refusals.Refusal.{Refusal}
@@ -7,6 +7,7 @@ use Rattle.checks.specs.declared.refusals.Refusal.TheVariants.{TooManyBytes, Too
 use Rattle.checks.specs.declared.refusals.Refusal.TheVariants.{WrongFieldCount, NotNumber, OutOfRange, ProcessNotNext}
 use Rattle.checks.specs.declared.refusals.Refusal.TheVariants.{MissingProcess, EndsNotAllowed, NoStandardValue, SecondOfPair}
 use Rattle.checks.specs.declared.refusals.Refusal.TheVariants.{OutputExceeded, EmptySheet, FigureTooLarge, SpaceTooShort}
+use Rattle.checks.specs.declared.refusals.Refusal.TheVariants.{SecondOfRank, NoFigures}
 
 abbrev pub refusal_number : Refusal → ℕ
 refusal_number TooManyBytes = 1
@@ -25,6 +26,8 @@ refusal_number OutputExceeded = 13
 refusal_number EmptySheet = 14
 refusal_number FigureTooLarge = 15
 refusal_number SpaceTooShort = 16
+refusal_number SecondOfRank = 17
+refusal_number NoFigures = 18
 
 -- of what is judged by itself
 abbrev pub number_judged : Result ⊤ Refusal → ℕ

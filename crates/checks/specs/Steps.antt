@@ -1,5 +1,5 @@
 -- For the code only: the number that each step of judging a line gives, 0 for none, over the words of the line and what the lines above say.
-use Rattle.std.specs.Prelude.{Bool, cond, ◌&&◌, ◌||◌, not, List, [], ◌∷◌, ℕ, suc, ◌+◌, eqb, ltb, leb, get_or}
+use Rattle.std.specs.Prelude.{Bool, cond, ◌&&◌, ◌||◌, not, List, [], ◌∷◌, ℕ, suc, ◌+◌, ◌/◌, ◌%◌, ◌^◌, eqb, ltb, leb, get_or}
 use Rattle.lines.specs.Words.{DASH, OTHER}
 use Rattle.sheet.specs.Kinds.{Rule}
 use Rattle.checks.specs.declared.above.Above.{Above}
@@ -29,7 +29,7 @@ words_number k [] words = 0
 words_number k (rule ∷ rs) words =
     or_else (word_number rule.lowest rule.highest rule.dash_allowed (get_or words k 0)) (words_number (suc k) rs words)
 
--- ---- 8 to 13: the line under the lines above it
+-- ---- 8 to 13 and 17: the line under the lines above it
 
 -- 8
 abbrev pub next_number : (n : ℕ) → Above → ℕ
@@ -50,3 +50,11 @@ standard_number code a b = cond (eqb code 0 && (eqb a DASH || eqb b DASH)) 11 0
 -- 12 and 13 of so many kilograms
 abbrev pub good_number : (kg : ℕ) → Above → ℕ
 good_number kg above = cond (not (eqb above.pair.0 0)) 12 (cond (ltb above.output.0 (above.taken.0 + kg)) 13 0)
+
+-- bit k of `ranks` is 1 where rank k is stated
+abbrev pub is_stated : (ranks rank : ℕ) → Bool
+is_stated ranks rank = eqb (ranks / 2 ^ rank % 2) 1
+
+-- 17
+abbrev pub rank_number : (rank : ℕ) → Above → ℕ
+rank_number rank above = cond (is_stated above.ranks rank) 17 0

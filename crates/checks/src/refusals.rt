@@ -1,8 +1,8 @@
-// Document 01, "Sheets sent back": the rows of its table.
+// Document 01, "Sheets sent back": the rows of its table, and those of document 02, ticket 4.
 ghost use Rattle.std.specs.Prelude.{◌≡◌};
 ghost use Rattle.checks.specs.Numbers.{refusal_number};
 
-// What is wrong with a sheet, in the order of the table.
+// What is wrong with a sheet, by rising number.
 #[derive(Clone, Copy, Debug, PartialEq, Eq)]
 pub enum Refusal {
     TooManyBytes,
@@ -21,6 +21,8 @@ pub enum Refusal {
     EmptySheet,
     FigureTooLarge,
     SpaceTooShort,
+    SecondOfRank,
+    NoFigures,
 }
 
 // A refusal and its line, 0 where it is no line's: the verdict of the definitions, and what C gets, have line 0 then.
@@ -61,6 +63,8 @@ impl From<Refusal> for u64 {
             Refusal::EmptySheet => 14,
             Refusal::FigureTooLarge => 15,
             Refusal::SpaceTooShort => 16,
+            Refusal::SecondOfRank => 17,
+            Refusal::NoFigures => 18,
         }
     }
 }

@@ -7,11 +7,11 @@ use Rattle.lines.specs.declared.LineRead.{LineRead}
 use Rattle.quantity.specs.Limits.{limits}
 use Rattle.quantity.specs.Ranges.{most_megajoules}
 use Rattle.quantity.specs.Weights.{weight, waste_gas_charge, waste_gas_credit}
-use Rattle.sheet.specs.Kinds.{letter, rules}
-use Rattle.sheet.specs.declared.Kind.TheVariants.{MeasurableHeat, WasteGas, Electricity, BoughtPrecursor}
+use Rattle.sheet.specs.Kinds.{letter, rules, specific_figure}
+use Rattle.sheet.specs.declared.Kind.TheVariants.{MeasurableHeat, WasteGas, Electricity, BoughtPrecursor, PrecursorUse}
 use Rattle.ledger.specs.Moved.{heat_moved, gas_moved, electricity_moved, bought_moved}
 use Rattle.entries.specs.Weighed.{heat_of, charge_of, credit_of, electricity_of, bought_direct_of, bought_indirect_of}
-use Rattle.entries.specs.Entries.{entry}
+use Rattle.entries.specs.Entries.{entry, used_entry}
 use Rattle.entries.specs.Read.{record_read, LineKeeps}
 use Rattle.entries.proofs.Ranges.{in_rules, are_words}
 use Rattle.entries.proofs.OfKind.{w, kind_at, is_at, entry_at}
@@ -88,3 +88,20 @@ module _ (l : LineRead) (keeps : LineKeeps l) (e : l.letter ≡ letter BoughtPre
       let v = are_words l keeps BoughtPrecursor (kind_at l BoughtPrecursor e) in
       rw (p, q, ← v.0 refl, ← v.1.0 refl, ← v.1.1.0 refl, ← v.1.1.1.0 refl)
       (rw (is_at l BoughtPrecursor e) at (entry_at l BoughtPrecursor e))
+
+-- `N,process,precursor,kg`
+module _ (l : LineRead) (keeps : LineKeeps l) (e : l.letter ≡ letter PrecursorUse) where
+  pub use_asked : (figure : ℕ) → figure ≤ specific_figure.highest → w l 2 * figure ≤ 1000000000000000000
+  unfolding rules
+  use_asked figure small =
+      let k = kind_at l PrecursorUse e in
+      let n = in_rules limits (record_read l) keeps.ranges PrecursorUse k in
+      let v = are_words l keeps PrecursorUse k in
+      rw (← v.1.1.0 refl) (omega (arith, mul-le-mul (n.1.1.0 refl).high small))
+
+  pub use_entry : (direct indirect : ℕ) {g h : ℕ} → g ≡ weight (w l 2) direct → h ≡ weight (w l 2) indirect
+      → bought_moved (w l 0) g h ≡ used_entry direct indirect (record_read l)
+  unfolding rules
+  use_entry direct indirect p q =
+      let v = are_words l keeps PrecursorUse (kind_at l PrecursorUse e) in
+      rw (p, q, ← v.0 refl, ← v.1.1.0 refl)

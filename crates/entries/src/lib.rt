@@ -1,12 +1,12 @@
-// Document 01, "Attribution": a line that was read, weighed, as one entry.
+// Document 01, "Attribution", and document 02, ticket 4: a line that was read, weighed, as one entry.
 #![tactic(auto)]
 
 mod given;
 
-ghost use Rattle.std.specs.Prelude.{◌≡◌};
-ghost use Rattle.sheet.specs.Kinds.{letter};
-ghost use Rattle.sheet.specs.declared.Kind.TheVariants.{SourceStream, MeasurableHeat, WasteGas, Electricity, BoughtPrecursor};
-ghost use Rattle.entries.specs.Entries.{entry};
+ghost use Rattle.std.specs.Prelude.{◌≡◌, ◌≤◌};
+ghost use Rattle.sheet.specs.Kinds.{letter, specific_figure};
+ghost use Rattle.sheet.specs.declared.Kind.TheVariants.{SourceStream, MeasurableHeat, WasteGas, Electricity, BoughtPrecursor, PrecursorUse};
+ghost use Rattle.entries.specs.Entries.{entry, used_entry};
 ghost use Rattle.entries.specs.Read.{record_read, LineKeeps, LineKeeps-prop};
 
 use ledger::Entry;
@@ -82,7 +82,21 @@ impl<'a> KeptLine<'a> {
         moves::bought_entry(words[0] as usize, direct, indirect)
     }
 
-    // The entry of the line by its letter. Outputs and own goods move no grams here.
+    // `N,process,precursor,kg`, by the figures that govern its precursor: as a B line with these figures.
+    pub fn weigh_use(self, direct: u64, indirect: u64) -> Entry
+        requires letter { self.line.now.letter ≡ letter PrecursorUse }
+        requires direct_bound { direct ≤ specific_figure.highest }
+        requires indirect_bound { indirect ≤ specific_figure.highest }
+        ensures { result ≡ used_entry direct indirect (record_read self.entry.line.now) }
+    {
+        let words = &self.line.words;
+        let direct = grams::weighing::weighed(Kilos(words[2]), direct);
+        let indirect = grams::weighing::weighed(Kilos(words[2]), indirect);
+        moves::bought_entry(words[0] as usize, direct, indirect)
+    }
+
+    // The entry of the line by its letter. Outputs, own goods and the figures of precursors move no grams here, nor do the uses of precursors:
+    // `weigh_use` weighs these, once the figures are known.
     #[tactic(auto, using(sheet::proofs::Table::letter_of), unfolding(crate::specs::Read::record_read))]
     pub fn weigh(self) -> Entry
         ensures { result ≡ entry (record_read self.entry.line.now) }
@@ -95,6 +109,8 @@ impl<'a> KeptLine<'a> {
             Kind::BoughtPrecursor => self.weigh_bought(),
             Kind::Process => Entry::default(),
             Kind::OwnGood => Entry::default(),
+            Kind::PrecursorFigures => Entry::default(),
+            Kind::PrecursorUse => Entry::default(),
             Kind::Unknown => Entry::default(),
         }
     }

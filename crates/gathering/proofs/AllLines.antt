@@ -13,35 +13,35 @@ use Rattle.lines.specs.Records.{Record, record_of}
 use Rattle.lines.specs.declared.LineRead.{LineRead}
 use Rattle.goods.specs.Settling.{PAIRS}
 use Rattle.quantity.specs.Limits.{limits}
-use Rattle.goods.specs.Sums.{only_at}
-use Rattle.sheet.specs.Refusals.{sum_of, from, to}
-use Rattle.attribution.specs.Reckoning.{kilos_of, kilos_between}
+use Rattle.sheet.specs.Refusals.{sum_of}
 use Rattle.sheet.specs.Verdict.{accepted, refused, first_of, line_checks, lines_checks}
 use Rattle.sheet.proofs.First.{accepted_passes, first_rest, first_here}
 use Rattle.sheet.proofs.Passed.{line_passed}
 use Rattle.judge.specs.Line.{line_number}
 use Rattle.judge.proofs.Line.{AboveHeld, given, line_accepted, line_refused}
 use Rattle.entries.specs.Read.{LineKeeps}
-use Rattle.works.specs.Works.{works_at_start, works_after, kilos_after, above_of}
+use Rattle.works.specs.Works.{works_at_start, nothing_stated, works_after, stated_after, kilos_after, above_of}
 use Rattle.works.specs.declared.Works.{Works}
+use Rattle.works.specs.declared.Stated.{Stated}
 use Rattle.gathering.specs.Gathered.{NoKilos}
 use Rattle.gathering.proofs.HeldLedger.{held_start}
 use Rattle.gathering.proofs.HeldGoods.{goods_start}
+use Rattle.gathering.proofs.HeldStated.{stated_start}
 use Rattle.gathering.proofs.Standing.{Standing, Says, small_limits, standing_start, standing_next, above_held, line_keeps}
 
 -- of all lines those in `left` are not read yet
-pub record Reading (all left : List Line) (w : Works) (kilos : List ℕ) : Type 0 where
+pub record Reading (all left : List Line) (w : Works) (stated : Stated) (kilos : List ℕ) : Type 0 where
   pub above : List Record
-  pub standing : Standing above w kilos
+  pub standing : Standing above w stated kilos
   pub verdict : first_of (lines_checks limits above left) ≡ first_of (lines_checks limits [] all)
   pub sums : (f : Record → ℕ) → sum_of f above + sum_of f (map record_of left) ≡ sum_of f (map record_of all)
   pub place : drop (length above) all ≡ left
 
-pub reading_start : (all : List Line) (kilos : List ℕ) → NoKilos kilos → Reading all all works_at_start kilos
+pub reading_start : (all : List Line) (kilos : List ℕ) → NoKilos kilos → Reading all all works_at_start nothing_stated kilos
 unfolding sum_of
 reading_start all kilos e = record {
   above = [];
-  standing = rw e (standing_start works_at_start (replicate PAIRS 0) refl refl goods_start held_start);
+  standing = rw e (standing_start works_at_start nothing_stated (replicate PAIRS 0) refl refl goods_start stated_start held_start);
   verdict = refl;
   sums = λ f. omega arith;
   place = refl;
@@ -55,37 +55,35 @@ sums_parted f zero all = omega arith
 sums_parted f (suc n) [] = omega arith
 sums_parted f (suc n) (l ∷ all) = omega (arith, sums_parted f n all)
 
--- the kilograms of the lines above are those of the first lines of all
-pub kilos_first : {all left : List Line} {w : Works} {kilos : List ℕ} (rd : Reading all left w kilos) (i j : ℕ)
-    → kilos_between rd.above i j ≡ kilos_between (map record_of (take (length rd.above) all)) i j
-unfolding kilos_between
-kilos_first {all} rd i j =
-    let f : Record → ℕ = λ r. only_at i (from r) (only_at j (to r) (kilos_of r)) in
+-- every sum over the lines above is that over the first lines of all
+pub sums_first : {all left : List Line} {w : Works} {stated : Stated} {kilos : List ℕ} (rd : Reading all left w stated kilos) (f : Record → ℕ)
+    → sum_of f rd.above ≡ sum_of f (map record_of (take (length rd.above) all))
+sums_first {all} rd f =
     let s = rw rd.place at (sums_parted f (length rd.above) all) in
     omega (arith, rd.sums f, s)
 
 -- the number that the code gives a line of words l, under the state
-abbrev pub line_given : Line → Works → (kilos : List ℕ) → LineRead → ℕ
-line_given line w kilos l = line_number limits line.ended l.letter l.count l.words (above_of w kilos l)
+abbrev pub line_given : Line → Works → Stated → (kilos : List ℕ) → LineRead → ℕ
+line_given line w stated kilos l = line_number limits line.ended l.letter l.count l.words (above_of w stated kilos l)
 
-module _ (all rest : List Line) (line : Line) (w : Works) (kilos : List ℕ) (rd : Reading all (line ∷ rest) w kilos)
+module _ (all rest : List Line) (line : Line) (w : Works) (stated : Stated) (kilos : List ℕ) (rd : Reading all (line ∷ rest) w stated kilos)
     (l : LineRead) (says : Says l (record_of line)) where
-  given_is : line_given line w kilos l ≡ given limits line (above_of w kilos l)
+  given_is : line_given line w stated kilos l ≡ given limits line (above_of w stated kilos l)
   given_is = rw (says.letter, says.count, says.words)
 
-  held : AboveHeld limits rd.above (record_of line) (above_of w kilos l)
-  held = above_held rd.above w kilos rd.standing l (record_of line) says
+  held : AboveHeld limits rd.above (record_of line) (above_of w stated kilos l)
+  held = above_held rd.above w stated kilos rd.standing l (record_of line) says
 
-  pub accepted_here : line_given line w kilos l ≡ 0 → first_of (line_checks limits rd.above line) ≡ accepted
-  accepted_here z = line_accepted limits small_limits rd.above line (above_of w kilos l) held (sym given_is ∙ z)
+  pub accepted_here : line_given line w stated kilos l ≡ 0 → first_of (line_checks limits rd.above line) ≡ accepted
+  accepted_here z = line_accepted limits small_limits rd.above line (above_of w stated kilos l) held (sym given_is ∙ z)
 
-  pub refused_here : (n : ℕ) → line_given line w kilos l ≡ n → (n ≡ 0 → ⊥) → first_of (lines_checks limits [] all) ≡ refused n (w.noted.lines + 1)
+  pub refused_here : (n : ℕ) → line_given line w stated kilos l ≡ n → (n ≡ 0 → ⊥) → first_of (lines_checks limits [] all) ≡ refused n (w.noted.lines + 1)
   unfolding lines_checks
   refused_here n e some =
       let number : suc (length rd.above) ≡ w.noted.lines + 1 = omega (arith, rd.standing.lines) in
       sym rd.verdict
       ∙ first_here (line_checks limits rd.above line) (lines_checks limits (record_of line ∷ rd.above) rest) n (w.noted.lines + 1)
-      (line_refused limits small_limits rd.above line (above_of w kilos l) held n (sym given_is ∙ e) some
+      (line_refused limits small_limits rd.above line (above_of w stated kilos l) held n (sym given_is ∙ e) some
       ∙ ap (refused n) number)
 
   -- ---- the line accepted
@@ -97,17 +95,22 @@ module _ (all rest : List Line) (line : Line) (w : Works) (kilos : List ℕ) (rd
     pub ended_here : line.ended ≡ true
     ended_here = (line_passed limits rd.above line (accepted_passes _ ok)).ended
 
-    pub reading_next : Reading all rest (works_after w l) (kilos_after kilos l)
+    pub reading_next : Reading all rest (works_after w l) (stated_after stated l) (kilos_after kilos l)
     unfolding sum_of lines_checks
     reading_next = record {
       above = record_of line ∷ rd.above;
-      standing = standing_next line l says rd.above ok w kilos rd.standing;
+      standing = standing_next line l says rd.above ok w stated kilos rd.standing;
       verdict = sym (first_rest (line_checks limits rd.above line) _ ok) ∙ rd.verdict;
       sums = λ f. let s = rd.sums f in omega arith;
       place = ap (λ (n : ℕ). drop n all) (sym (add-one (length rd.above))) ∙ sym (drop-drop 1 (length rd.above) all) ∙ ap (drop 1) rd.place;
     }
 
+    -- every sum with this line is that over the first lines of all
+    pub sums_next : (f : Record → ℕ) → sum_of f (record_of line ∷ rd.above) ≡ sum_of f (map record_of (take (length (record_of line ∷ rd.above)) all))
+    unfolding reading_next
+    sums_next f = sums_first reading_next f
+
 -- no line is left
-pub reading_verdict : (all : List Line) (w : Works) (kilos : List ℕ) → Reading all [] w kilos → first_of (lines_checks limits [] all) ≡ accepted
+pub reading_verdict : (all : List Line) (w : Works) (stated : Stated) (kilos : List ℕ) → Reading all [] w stated kilos → first_of (lines_checks limits [] all) ≡ accepted
 unfolding lines_checks first_of
-reading_verdict all w kilos rd = sym rd.verdict
+reading_verdict all w stated kilos rd = sym rd.verdict

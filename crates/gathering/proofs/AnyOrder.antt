@@ -1,17 +1,25 @@
 -- What is held of the lines above goes by sums over them, so the order of the lines is of no account. Assumes nothing.
-use mathlib.Core.Path.{◌≡◌, refl, sym, ap₂, ◌∙◌}
+use mathlib.Core.Path.{◌≡◌, refl, sym, ap, ap₂, ◌∙◌}
+use mathlib.Core.Bool.{Bool, true, false, cond, ◌||◌, not}
 use mathlib.Core.List.{List, [], ◌∷◌}
-use Prim.Native.Nat.{ℕ}
+use Prim.Native.Nat.{ℕ, ◌+◌}
 use native.Mathlib.Omega.{arith}
+use borrow.Author.Tests.{ne_eqb}
+use lib.Dec.{eqb}
 use lib.ListN.{length}
-use Rattle.lines.specs.Records.{Record}
-use Rattle.sheet.specs.Refusals.{sum_of, output_in, taken_in}
+use Rattle.lines.specs.Records.{Record, number_at}
+use Rattle.sheet.specs.Refusals.{any_of, sum_of, output_in, taken_in}
 use Rattle.ledger.specs.declared.Ledger.{Ledger}
+use Rattle.attribution.specs.Governing.{states, governing_rank, governing_direct, governing_indirect}
 use Rattle.attribution.specs.Reckoning.{process_count, kilos_between}
 use Rattle.attribution.proofs.Differences.{diff}
 use Rattle.attribution.proofs.EveryKind.{plus, minus}
 use Rattle.gathering.proofs.HeldLedger.{HeldLedger}
 use Rattle.gathering.proofs.HeldGoods.{HeldGoods}
+use Rattle.gathering.proofs.HeldStated.{HeldStated}
+use Rattle.gathering.proofs.HeldPlaces.{place_for}
+use Rattle.gathering.specs.Gathered.{StatedIn, PlacesIn}
+use Rattle.works.specs.declared.Stated.{Stated}
 
 -- every sum over the one list is the sum over the other
 abbrev pub SameSums : List Record → List Record → Type 0
@@ -22,7 +30,46 @@ unfolding sum_of
 sum_ones [] = refl
 sum_ones (r ∷ rs) = omega (arith, sum_ones rs)
 
+-- whether a record passes a test, by a sum
+any_by_sum : (test : Record → Bool) (rs : List Record) → any_of test rs ≡ not (eqb (sum_of (λ r. cond (test r) 1 0) rs) 0)
+unfolding any_of sum_of
+any_by_sum test [] = refl
+any_by_sum test (r ∷ rs) = go (test r) (any_by_sum test rs)
+  where
+    go : (b : Bool) → any_of test rs ≡ not (eqb (sum_of (λ q. cond (test q) 1 0) rs) 0) → (b || any_of test rs) ≡ not (eqb (cond b 1 0 + sum_of (λ q. cond (test q) 1 0) rs) 0)
+    go true ih = sym (ap not (ne_eqb (1 + sum_of (λ q. cond (test q) 1 0) rs) 0 (λ z. omega arith)))
+    go false ih =
+        ih
+        ∙ ap (λ (n : ℕ). not (eqb n 0)) (let e : sum_of (λ q. cond (test q) 1 0) rs ≡ 0 + sum_of (λ q. cond (test q) 1 0) rs = omega arith in e)
+
 module _ (above rs : List Record) (same : SameSums above rs) where
+  pub any_same : (test : Record → Bool) → any_of test above ≡ any_of test rs
+  any_same test = any_by_sum test above ∙ ap (λ (n : ℕ). not (eqb n 0)) (same (λ r. cond (test r) 1 0)) ∙ sym (any_by_sum test rs)
+
+  ranks_same : (p : ℕ) → governing_rank above p ≡ governing_rank rs p
+  ranks_same p = ap₂ (λ (s t : Bool). cond s 1 (cond t 2 3)) (any_same (states p 1)) (any_same (states p 2))
+
+  -- the figures that govern
+  figure_same : (figure : Record → ℕ) (p : ℕ) → sum_of (λ r. cond (states p (governing_rank above p) r) (figure r) 0) above
+      ≡ sum_of (λ r. cond (states p (governing_rank rs p) r) (figure r) 0) rs
+  figure_same figure p =
+      ap (λ (k : ℕ). sum_of (λ r. cond (states p k r) (figure r) 0) above) (ranks_same p)
+      ∙ same (λ r. cond (states p (governing_rank rs p) r) (figure r) 0)
+
+  pub stated_same : (s : Stated) → HeldStated above s → StatedIn rs s
+  stated_same s h = record {
+    none_at = λ p. h.ranks.none_at p ∙ ap not (any_same _);
+    used = h.used ∙ any_same _;
+  }
+
+  pub places_same : {sheet : List ℕ} {s : Stated} → PlacesIn sheet above s → PlacesIn sheet rs s
+  unfolding governing_direct governing_indirect
+  places_same q = record {
+    size = q.size;
+    within = q.within;
+    some = λ p e. place_for (q.some p e) (figure_same (λ r. number_at r 2) p) (figure_same (λ r. number_at r 3) p);
+  }
+
   pub same_length : length above ≡ length rs
   same_length = sym (sum_ones above) ∙ same (λ r. 1) ∙ sum_ones rs
 

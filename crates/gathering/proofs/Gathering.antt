@@ -18,15 +18,31 @@ use Rattle.ledger.proofs.Bounds.{within_more}
 use Rattle.sheet.specs.Refusals.{sum_of, any_of, process, output_in}
 use Rattle.attribution.specs.Attribution.{indirect}
 use Rattle.attribution.specs.Reckoning.{output}
-use Rattle.gathering.specs.Gathered.{Gathered}
+use Rattle.ledger.specs.declared.Ledger.{Ledger}
+use Rattle.gathering.specs.Gathered.{BooksOf, Gathered, StatedIn}
 use Rattle.works.specs.declared.Works.{Works}
+use Rattle.works.specs.declared.Stated.{Stated}
 use Rattle.attribution.proofs.Entries.{balance_is, entered_is, figures}
 use Rattle.gathering.proofs.HeldLedger.{HeldLedger}
 use Rattle.gathering.proofs.HeldGoods.{HeldGoods}
-use Rattle.gathering.proofs.AnyOrder.{SameSums, same_length, ledger_same, goods_same}
+use Rattle.gathering.proofs.AnyOrder.{SameSums, same_length, stated_same, ledger_same, goods_same}
 use Rattle.gathering.proofs.AllLines.{Reading}
 
-module _ (sheet : List ℕ) (w : Works) (kilos : List ℕ) (rd : Reading (lines_of sheet) [] w kilos) where
+-- the books of records, not more than a sheet may have
+pub books_held : (rs : List Record) (l : Ledger) → length rs ≤ limits.lines → HeldLedger rs l → BooksOf rs l
+unfolding indirect
+books_held rs l few h = record {
+  sized = h.sized;
+  balance_at = λ i. h.balances i ∙ sym (balance_is rs i);
+  indirect_at = λ i. h.indirect i ∙ sym (figures i rs).used;
+  bought_direct_at = λ i. h.bought_direct i ∙ sym (figures i rs).direct;
+  bought_indirect_at = λ i. h.bought_indirect i ∙ sym (figures i rs).indirect;
+  entered_is = h.entered ∙ sym (entered_is rs);
+  uncredited_is = h.uncredited ∙ sym (figures 0 rs).uncredited;
+  room = within_more (omega (arith, few)) h.within;
+}
+
+module _ (sheet : List ℕ) (w : Works) (stated : Stated) (kilos : List ℕ) (rd : Reading (lines_of sheet) [] w stated kilos) where
   abbrev rs : List Record
   rs = records_of sheet
 
@@ -54,7 +70,7 @@ module _ (sheet : List ℕ) (w : Works) (kilos : List ℕ) (rd : Reading (lines_
       go (inr e) s = omega (arith, rd.standing.made i e)
 
   pub gathered : Gathered (records_of sheet) w kilos
-  unfolding output indirect
+  unfolding output
   gathered = record {
     lines = rd.standing.lines ∙ same_length rd.above (records_of sheet) same;
     count = goods.counted;
@@ -64,14 +80,10 @@ module _ (sheet : List ℕ) (w : Works) (kilos : List ℕ) (rd : Reading (lines_
     taken_size = goods.taken_size;
     taken_at = goods.taken_at;
     kilos_at = goods.kilos_at;
-    ledger_size = ledger.sized;
-    balance_at = λ i. ledger.balances i ∙ sym (balance_is rs i);
-    indirect_at = λ i. ledger.indirect i ∙ sym (figures i rs).used;
-    bought_direct_at = λ i. ledger.bought_direct i ∙ sym (figures i rs).direct;
-    bought_indirect_at = λ i. ledger.bought_indirect i ∙ sym (figures i rs).indirect;
-    entered_is = ledger.entered ∙ sym (entered_is rs);
-    uncredited_is = ledger.uncredited ∙ sym (figures 0 rs).uncredited;
     made = made;
     outputs_small = λ i. omega (arith, goods.output_at i, goods.outputs_small i, few);
-    room = within_more (omega (arith, few)) ledger.within;
+    books = books_held rs w.ledger few ledger;
   }
+
+  pub stated_all : StatedIn (records_of sheet) stated
+  stated_all = stated_same rd.above (records_of sheet) same stated rd.standing.precursors

@@ -1,18 +1,20 @@
 -- What the code holds of the lines above it, and that one accepted line more keeps it. Assumes nothing.
-use mathlib.Core.Path.{◌≡◌, refl, sym, ap, ◌∙◌}
+use mathlib.Core.Path.{◌≡◌, refl, sym, ap, ◌∙◌, subst}
 use mathlib.Core.Bool.{Bool, true, false, cond, not, ◌&&◌, ◌||◌}
 use mathlib.Core.List.{List, [], ◌∷◌, map}
-use Prim.Native.Nat.{ℕ, suc, ◌+◌, ◌*◌, ◌≤◌, ◌<◌}
+use Prim.Native.Nat.{ℕ, suc, ◌+◌, ◌*◌, ◌%◌, ◌^◌, ◌≤◌, ◌<◌}
 use native.Mathlib.Numerals.{add-one}
 use native.Mathlib.Omega.{arith}
 use borrow.Author.Tests.{eqb-true, eqb-false, ne_eqb, lt-ltb, ltb-false}
 use lib.Dec.{eqb}
-use lib.ListN.{length, get_or, replicate}
+use lib.ListN.{length, get_or, set, replicate}
 use lib.Seq.{length-sets}
 use Rattle.std.proofs.lemmas.Bool.{false≢true}
 use Rattle.lines.specs.Lines.{Line}
 use Rattle.lines.specs.Records.{Record, record_of, number_at}
-use Rattle.lines.specs.Words.{WORDS, CAP, word, words}
+use Rattle.lines.specs.Words.{WORDS, CAP, word, words, line_at}
+use Rattle.places.specs.LineStart.{start_of}
+use Rattle.std.specs.Int.Bits.{bit_or}
 use Rattle.lines.specs.declared.LineRead.{LineRead}
 use Rattle.goods.specs.Settling.{SIZE}
 use Rattle.goods.specs.Sums.{only_at}
@@ -22,8 +24,8 @@ use Rattle.ledger.proofs.Bounds.{within_more}
 use Rattle.quantity.specs.Limits.{limits}
 use Rattle.sheet.specs.Kinds.{letter, is, rules}
 use Rattle.sheet.specs.declared.Kind.{Kind}
-use Rattle.sheet.specs.declared.Kind.TheVariants.{Process, OwnGood, Unknown}
-use Rattle.sheet.specs.Refusals.{any_of, sum_of, process, from, to, output_in}
+use Rattle.sheet.specs.declared.Kind.TheVariants.{Process, OwnGood, PrecursorFigures, PrecursorUse, Unknown}
+use Rattle.sheet.specs.Refusals.{any_of, sum_of, process, from, to, stated_precursor, rank, output_in}
 use Rattle.sheet.specs.Verdict.{accepted, first_of, line_checks}
 use Rattle.sheet.proofs.First.{accepted_passes}
 use Rattle.sheet.proofs.Passed.{PassedLine, line_passed}
@@ -37,9 +39,13 @@ use Rattle.entries.proofs.Ranges.{in_rules, are_words}
 use Rattle.attribution.proofs.EveryKind.{small_entry}
 use Rattle.attribution.specs.Reckoning.{kilos_of, kilos_between}
 use Rattle.works.specs.declared.Works.{Works}
-use Rattle.works.specs.Works.{above_of, works_after, kilos_after, RoomForLine}
-use Rattle.works.proofs.AfterLine.{after_process, after_good, after_other}
+use Rattle.works.specs.declared.Stated.{Stated}
+use Rattle.works.specs.Works.{PRECURSORS, above_of, works_after, stated_of, use_noted, stated_after, kilos_after, RoomForLine}
+use Rattle.works.proofs.AfterLine.{after_process, after_good, after_other, stated_figures, stated_use, stated_other}
 use Rattle.gathering.proofs.HeldLedger.{HeldLedger, held_booked}
+use Rattle.gathering.proofs.HeldStated.{HeldStated, held_figures, held_use, held_stated}
+use Rattle.gathering.proofs.HeldPlaces.{places_other, places_more}
+use Rattle.gathering.specs.Gathered.{PlacesIn}
 use Rattle.gathering.proofs.HeldGoods.{HeldGoods, held_process, held_good, held_other}
 
 -- a pair has kilograms exactly where a G line above has it
@@ -50,19 +56,20 @@ Once above = (f t : ℕ) → eqb (kilos_between above f t) 0 ≡ not (any_of (λ
 abbrev pub Made : List Record → Type 0
 Made above = (p : ℕ) → any_of (λ r. is Process r && eqb p (process r)) above ≡ true → 1 ≤ sum_of (output_in p) above
 
-pub record Standing (above : List Record) (w : Works) (kilos : List ℕ) : Type 0 where
+pub record Standing (above : List Record) (w : Works) (stated : Stated) (kilos : List ℕ) : Type 0 where
   pub lines : w.noted.lines ≡ length above
   pub few : length above ≤ limits.lines
   pub held : Held limits above w.noted.count
   pub goods : HeldGoods above w.noted.count w.noted.outputs.0 w.noted.taken.0 kilos
   pub made : Made above
   pub once : Once above
+  pub precursors : HeldStated above stated
   pub ledger : HeldLedger above w.ledger
 
 -- ---- there is room for one line more
 
-pub room_for_line : (above : List Record) (w : Works) (kilos : List ℕ) → Standing above w kilos → RoomForLine w.noted kilos
-room_for_line above w kilos s = record {
+pub room_for_line : (above : List Record) (w : Works) (stated : Stated) (kilos : List ℕ) → Standing above w stated kilos → RoomForLine w.noted kilos
+room_for_line above w stated kilos s = record {
   lines = omega (arith, s.lines, s.few);
   count = omega (arith, s.held.few, s.few);
   outputs = λ i. omega (arith, s.goods.outputs_small i, s.few);
@@ -70,13 +77,13 @@ room_for_line above w kilos s = record {
   pairs = λ i. omega (arith, s.goods.kilos_small i, s.few);
 }
 
-pub room : (above : List Record) (w : Works) (kilos : List ℕ) → Standing above w kilos → Room w.ledger
-room above w kilos s = within_more (omega (arith, s.few)) s.ledger.within
+pub room : (above : List Record) (w : Works) (stated : Stated) (kilos : List ℕ) → Standing above w stated kilos → Room w.ledger
+room above w stated kilos s = within_more (omega (arith, s.few)) s.ledger.within
 
 -- what is held of an own good's processes
-good_held : (above : List Record) (w : Works) (kilos : List ℕ) → Standing above w kilos → (f t : ℕ) → t ≤ w.noted.count
+good_held : (above : List Record) (w : Works) (stated : Stated) (kilos : List ℕ) → Standing above w stated kilos → (f t : ℕ) → t ≤ w.noted.count
     → GoodHeld above f t (get_or w.noted.outputs.0 f 0) (get_or w.noted.taken.0 f 0) (get_or kilos (f * SIZE + t) 0)
-good_held above w kilos s f t c =
+good_held above w stated kilos s f t c =
     let place : t < SIZE = omega (arith, s.held.most) in
     record {
       out = s.goods.output_at f;
@@ -87,16 +94,18 @@ good_held above w kilos s f t c =
 -- ---- above the first line
 
 -- nothing above
-pub standing_start : (w : Works) (kilos : List ℕ) → w.noted.lines ≡ 0 → w.noted.count ≡ 0
-    → HeldGoods [] w.noted.count w.noted.outputs.0 w.noted.taken.0 kilos → HeldLedger [] w.ledger → Standing [] w kilos
+pub standing_start : (w : Works) (stated : Stated) (kilos : List ℕ) → w.noted.lines ≡ 0 → w.noted.count ≡ 0
+    → HeldGoods [] w.noted.count w.noted.outputs.0 w.noted.taken.0 kilos → HeldStated [] stated → HeldLedger [] w.ledger
+    → Standing [] w stated kilos
 unfolding kilos_between sum_of any_of
-standing_start w kilos l c g h = record {
+standing_start w stated kilos l c g f h = record {
   lines = l;
   few = omega arith;
   held = rw c (held_none limits);
   goods = g;
   made = λ p e. absurd (false≢true e);
   once = λ f t. refl;
+  precursors = f;
   ledger = h;
 }
 
@@ -152,9 +161,9 @@ same_kind : (l : LineRead) (r : Record) → Says l r → (k : Kind) → eqb (let
 same_kind l r says k known = letter_is r.letter k known ∙ ap (λ (b : ℕ). eqb b (letter k)) (sym says.letter)
 
 -- WHAT THE STATE SAYS OF THE LINES ABOVE holds
-pub above_held : (above : List Record) (w : Works) (kilos : List ℕ) → Standing above w kilos → (l : LineRead) (r : Record) → Says l r
-    → AboveHeld limits above r (above_of w kilos l)
-above_held above w kilos s l r says = record {
+pub above_held : (above : List Record) (w : Works) (stated : Stated) (kilos : List ℕ) → Standing above w stated kilos → (l : LineRead) (r : Record) → Says l r
+    → AboveHeld limits above r (above_of w stated kilos l)
+above_held above w stated kilos s l r says = record {
   lines = s.lines;
   held = s.held;
   good = λ f t ef et e low rising known.
@@ -162,7 +171,11 @@ above_held above w kilos s l r says = record {
       let good : eqb l.letter (letter OwnGood) ≡ true = sym (same_kind l r says OwnGood refl) ∙ rw e refl in
       let wf : f ≡ get_or l.words 0 0 = rw says.words ef in
       let wt : t ≡ get_or l.words 1 0 = rw says.words et in
-      simp (good, ← wf, ← wt, lt-ltb f SIZE (omega arith), lt-ltb t SIZE (omega arith)) (good_held above w kilos s f t known);
+      simp (good, ← wf, ← wt, lt-ltb f SIZE (omega arith), lt-ltb t SIZE (omega arith)) (good_held above w stated kilos s f t known);
+  ranks = λ p k ep ek e range.
+      let figures : eqb l.letter (letter PrecursorFigures) ≡ true = sym (same_kind l r says PrecursorFigures refl) ∙ rw e refl in
+      let wp : p ≡ get_or l.words 0 0 = rw says.words ep in
+      simp (figures, ← wp, lt-ltb p PRECURSORS (omega (arith, range.1))) (s.precursors.ranks.ranks_at p k);
 }
 
 -- ---- a line that is accepted
@@ -176,7 +189,7 @@ module _ (line : Line) (l : LineRead) (says : Says l (record_of line)) (above : 
   passed = line_passed limits above line (accepted_passes _ ok)
 
   -- the record of the line that was read is the line's
-  read_record : record_read l ≡ record_of line
+  pub read_record : record_read l ≡ record_of line
   unfolding record_read
   read_record = rw (says.letter, says.count, says.words) (record_back limits small_limits r passed.ranges)
 
@@ -192,7 +205,7 @@ module _ (line : Line) (l : LineRead) (says : Says l (record_of line)) (above : 
   }
 
   -- ONE LINE MORE
-  module _ (w : Works) (kilos : List ℕ) (s : Standing above w kilos) where
+  module _ (w : Works) (stated : Stated) (kilos : List ℕ) (s : Standing above w stated kilos) where
     booked_next : HeldLedger (r ∷ above) (booked w.ledger (entry (record_read l)))
     booked_next = rw read_record (held_booked above w.ledger r (small_entry r passed.ranges) s.ledger)
 
@@ -202,8 +215,61 @@ module _ (line : Line) (l : LineRead) (says : Says l (record_of line)) (above : 
     is_letter_lem : (k : Kind) → eqb (letter k) (letter Unknown) ≡ false → (t : Bool) → is k r ≡ t → eqb l.letter (letter k) ≡ t
     is_letter_lem k known t e = sym (same_kind l r says k known) ∙ e
 
+    -- what is held of precursors
+    not_both : is PrecursorFigures r ≡ true → is PrecursorUse r ≡ true → ⊥
+    not_both f u = let z : ◌≡◌ {A = ℕ} 75 78 = ap letter (sym (kind_is PrecursorFigures r f) ∙ kind_is PrecursorUse r u) in omega arith
+
+    after_figures : is PrecursorFigures r ≡ true
+        → stated_after stated l ≡ stated_of
+        (set stated.ranks (stated_precursor r) (bit_or (get_or stated.ranks (stated_precursor r) 0) (2 ^ rank r)))
+        (cond (eqb (get_or stated.ranks (stated_precursor r) 0 % 2 ^ rank r) 0) (set stated.ends (stated_precursor r) (l.end % limits.bytes)) stated.ends)
+        stated.used
+    unfolding rules
+    after_figures f =
+        let v = are_words l line_keeps PrecursorFigures (rw read_record (kind_is PrecursorFigures r f)) in
+        let at0 : stated_precursor r ≡ get_or l.words 0 0 = rw read_record at (v.0 refl) in
+        let at1 : rank r ≡ get_or l.words 1 0 = rw read_record at (v.1.0 refl) in
+        rw (stated_figures stated l (eqb-true l.letter (letter PrecursorFigures) (is_letter_lem PrecursorFigures refl true f)), ← at0, ← at1) refl
+
+    after_use : is PrecursorUse r ≡ true → stated_after stated l ≡ use_noted stated
+    after_use u = stated_use stated l (eqb-true l.letter (letter PrecursorUse) (is_letter_lem PrecursorUse refl true u))
+
+    after_neither : is PrecursorFigures r ≡ false → is PrecursorUse r ≡ false → stated_after stated l ≡ stated
+    after_neither f u = stated_other stated l (is_letter_lem PrecursorFigures refl false f) (is_letter_lem PrecursorUse refl false u)
+
+    own_ranges : is PrecursorFigures r ≡ true → (stated_precursor r < PRECURSORS) × (1 ≤ rank r) × (rank r ≤ 3)
+    unfolding rules
+    own_ranges f =
+        let n = in_rules limits r passed.ranges PrecursorFigures (kind_is PrecursorFigures r f) in
+        (omega (arith, (n.0 refl).high), (n.1.0 refl).low, (n.1.0 refl).high)
+
+    stated_next : HeldStated (r ∷ above) (stated_after stated l)
+    stated_next = go (is PrecursorFigures r) refl (is PrecursorUse r) refl
+      where
+        go : (a : Bool) → is PrecursorFigures r ≡ a → (b : Bool) → is PrecursorUse r ≡ b → HeldStated (r ∷ above) (stated_after stated l)
+        go true f true u = absurd (not_both f u)
+        go true f false u =
+            let n = own_ranges f in
+            rw (after_figures f) (held_figures above stated s.precursors r _ f u n.0 n.1)
+        go false f true u = rw (after_use u) (held_use above stated s.precursors r f u)
+        go false f false u = rw (after_neither f u) (held_stated above stated s.precursors r f u)
+
+    pub places_next : (sheet : List ℕ) (at : ℕ) → line ≡ line_at sheet at → at < length sheet → l.end < limits.bytes → l.end < length sheet → start_of sheet l.end ≡ at
+        → PlacesIn sheet above stated → PlacesIn sheet (r ∷ above) (stated_after stated l)
+    places_next sheet at there more short last starts q = go (is PrecursorFigures r) refl (is PrecursorUse r) refl
+      where
+        go : (a : Bool) → is PrecursorFigures r ≡ a → (b : Bool) → is PrecursorUse r ≡ b → PlacesIn sheet (r ∷ above) (stated_after stated l)
+        go true f true u = absurd (not_both f u)
+        go true f false u =
+            let n = own_ranges f in
+            rw (after_figures f)
+            (places_more sheet above stated q r s.precursors f n.0 n.1 n.2 (rw f at passed.rank_once) l.end at (ap record_of (sym there)) more short last starts
+            (subst (λ (x : Line). first_of (line_checks limits above x) ≡ accepted) there ok) stated.used)
+        go false f true u = rw (after_use u) (places_other sheet above stated q r f true)
+        go false f false u = rw (after_neither f u) (places_other sheet above stated q r f stated.used)
+
     -- a line that is no P line and no G line
-    standing_other : is Process r ≡ false → is OwnGood r ≡ false → Standing (r ∷ above) (works_after w l) (kilos_after kilos l)
+    standing_other : is Process r ≡ false → is OwnGood r ≡ false → Standing (r ∷ above) (works_after w l) (stated_after stated l) (kilos_after kilos l)
     standing_other p g =
         let a = after_other w.noted kilos l (is_letter_lem Process refl false p) (is_letter_lem OwnGood refl false g) in
         rw (a.0, a.1) record {
@@ -213,10 +279,11 @@ module _ (line : Line) (l : LineRead) (says : Says l (record_of line)) (above : 
           goods = held_other above w.noted.count w.noted.outputs.0 w.noted.taken.0 kilos s.goods r p g;
           made = made_next above r s.made (λ e. absurd (false≢true (sym p ∙ e)));
           once = once_next above r s.once (λ e. absurd (false≢true (sym g ∙ e)));
+          precursors = stated_next;
           ledger = booked_next;
         }
 
-    standing_process : is Process r ≡ true → is OwnGood r ≡ false → Standing (r ∷ above) (works_after w l) (kilos_after kilos l)
+    standing_process : is Process r ≡ true → is OwnGood r ≡ false → Standing (r ∷ above) (works_after w l) (stated_after stated l) (kilos_after kilos l)
     unfolding rules
     standing_process p g =
         let k = kind_is Process r p in
@@ -232,10 +299,11 @@ module _ (line : Line) (l : LineRead) (says : Says l (record_of line)) (above : 
           goods = held_process above w.noted.count w.noted.outputs.0 w.noted.taken.0 kilos s.goods r p g (omega (arith, (n.0 refl).high)) (n.1.0 refl).high;
           made = made_next above r s.made (λ z. (n.1.0 refl).low);
           once = once_next above r s.once (λ z. absurd (false≢true (sym g ∙ z)));
+          precursors = stated_next;
           ledger = booked_next;
         }
 
-    standing_good : is Process r ≡ false → is OwnGood r ≡ true → Standing (r ∷ above) (works_after w l) (kilos_after kilos l)
+    standing_good : is Process r ≡ false → is OwnGood r ≡ true → Standing (r ∷ above) (works_after w l) (stated_after stated l) (kilos_after kilos l)
     unfolding rules
     standing_good p g =
         let k = kind_is OwnGood r g in
@@ -253,13 +321,14 @@ module _ (line : Line) (l : LineRead) (says : Says l (record_of line)) (above : 
               (omega (arith, (n.0 refl).high)) (omega (arith, (n.1.0 refl).high)) (n.1.1.0 refl).high;
           made = made_next above r s.made (λ z. absurd (false≢true (sym p ∙ z)));
           once = once_next above r s.once (λ z. (n.1.1.0 refl).low);
+          precursors = stated_next;
           ledger = booked_next;
         }
 
-    pub standing_next : Standing (r ∷ above) (works_after w l) (kilos_after kilos l)
+    pub standing_next : Standing (r ∷ above) (works_after w l) (stated_after stated l) (kilos_after kilos l)
     standing_next = go (is Process r) refl (is OwnGood r) refl
       where
-        go : (a : Bool) → is Process r ≡ a → (b : Bool) → is OwnGood r ≡ b → Standing (r ∷ above) (works_after w l) (kilos_after kilos l)
+        go : (a : Bool) → is Process r ≡ a → (b : Bool) → is OwnGood r ≡ b → Standing (r ∷ above) (works_after w l) (stated_after stated l) (kilos_after kilos l)
         go true p true g = absurd (let z : ◌≡◌ {A = ℕ} 80 71 = ap letter (sym (kind_is Process r p) ∙ kind_is OwnGood r g) in omega arith)
         go true p false g = standing_process p g
         go false p true g = standing_good p g

@@ -15,57 +15,82 @@ use Rattle.lines.specs.Records.{Field, Record, record_of, field, number_at}
 use Rattle.lines.specs.Words.{CAP}
 use Rattle.quantity.specs.Limits.{Limits}
 use Rattle.sheet.specs.Kinds.{kind, is, Rule, rules, sheet_table, named_fields, ends_of}
-use Rattle.sheet.specs.declared.Kind.TheVariants.{Process, SourceStream, OwnGood}
+use Rattle.sheet.specs.declared.Kind.{Kind}
+use Rattle.sheet.specs.declared.Kind.TheVariants.{Process, SourceStream, OwnGood, PrecursorFigures}
 use Rattle.sheet.specs.Refusals.{any_of, sum_of, from, to, output_in, taken_in, has_process, too_many_lines, unknown_kind}
 use Rattle.sheet.specs.Refusals.{process_not_next, missing_process, ends_not_allowed, no_standard_value, second_of_pair, output_exceeded}
+use Rattle.sheet.specs.Refusals.{stated_precursor, rank, second_of_rank}
 use Rattle.sheet.specs.Verdict.{Verdict, Check, check, accepted, refused, first_of, number_of, field_checks, shape_checks, order_checks, line_checks, All}
 use Rattle.sheet.proofs.Table.{kind_is, rules_fit, FitsWords}
 use Rattle.sheet.proofs.First.{all_join}
 use Rattle.sheet.proofs.Held.{Held, GoodHeld}
-use Rattle.checks.specs.Steps.{or_else, words_number}
+use Rattle.checks.specs.Steps.{or_else, words_number, is_stated}
 use Rattle.checks.specs.declared.above.Above.{Above}
 use Rattle.checks.proofs.Chain.{else_first}
-use Rattle.checks.specs.Judged.{not_next, missing, no_standard, second, exceeded, fields_number, order_number, kind_number}
+use Rattle.checks.proofs.Fitting.{Fitting}
+use Rattle.checks.specs.Judged.{not_next, missing, no_standard, second, exceeded, stated, fields_number, order_number, kind_number}
 use Rattle.judge.specs.Line.{line_number}
 use Rattle.judge.proofs.Words.{method_at, number_cons}
-use Rattle.judge.proofs.Shape.{said_words, table_number, shape_number_lem, dash_word, early_word}
+use Rattle.judge.proofs.Shape.{said_words, table_number, shape_number_lem, dash_word, words_fitting, early_word}
 
 -- ---- what the code holds of the lines above a line
 
--- `f` and `t` are the words of its first two fields; of an own good its processes' kilograms are held, where rows 2 to 10 do not apply
+-- a K line of this precursor and rank stands above
+abbrev pub any_stated : (above : List Record) → (p k : ℕ) → Bool
+any_stated above p k = any_of (λ q. is PrecursorFigures q && (eqb (stated_precursor q) p && eqb (rank q) k)) above
+
+-- the ranges of a K line's precursor and rank
+abbrev pub FiguresRange : (p k : ℕ) → Type 0
+FiguresRange p k = (1 ≤ p) × (p ≤ 255) × (1 ≤ k) × (k ≤ 3)
+
+-- `f` and `t`, or `p` and `k`, are the words of its first two fields; of an own good its processes' kilograms are held, where rows 2 to 10 do not
+-- apply, and of a K line the ranks stated for its precursor, where rows 2 to 7 do not apply
 pub record AboveHeld (limits : Limits) (above : List Record) (r : Record) (a : Above) : Type 0 where
   pub lines : a.lines ≡ length above
   pub held : Held limits above a.processes
   pub good : (f t : ℕ) → f ≡ get_or (said_words r) 0 0 → t ≡ get_or (said_words r) 1 0 → kind r ≡ OwnGood → 1 ≤ f → f < t → t ≤ a.processes
       → GoodHeld above f t a.output.0 a.taken.0 a.pair.0
+  pub ranks : (p k : ℕ) → p ≡ get_or (said_words r) 0 0 → k ≡ get_or (said_words r) 1 0 → kind r ≡ PrecursorFigures → FiguresRange p k
+      → is_stated a.ranks k ≡ any_stated above p k
 
--- ---- 8 to 13
+-- ---- 8 to 13 and 17
 
 -- the tests in the order of judging
-abbrev chain : (t8 t9 t10 t11 t12 t13 : Bool) → ℕ
-chain t8 t9 t10 t11 t12 t13 = cond t8 8 (cond t9 9 (cond t10 10 (cond t11 11 (cond t12 12 (cond t13 13 0)))))
+abbrev chain : (t8 t9 t10 t11 t12 t13 t17 : Bool) → ℕ
+chain t8 t9 t10 t11 t12 t13 t17 = cond t8 8 (cond t9 9 (cond t10 10 (cond t11 11 (cond t12 12 (cond t13 13 (cond t17 17 0))))))
 
-chain_number : (k : ℕ) (t8 t9 t10 t11 t12 t13 : Bool)
-    → number_of (first_of (check 8 k t8 ∷ check 9 k t9 ∷ check 10 k t10 ∷ check 11 k t11 ∷ check 12 k t12 ∷ check 13 k t13 ∷ []))
-    ≡ chain t8 t9 t10 t11 t12 t13
+chain_number : (k : ℕ) (t8 t9 t10 t11 t12 t13 t17 : Bool)
+    → number_of (first_of (check 8 k t8 ∷ check 9 k t9 ∷ check 10 k t10 ∷ check 11 k t11 ∷ check 12 k t12 ∷ check 13 k t13
+    ∷ check 17 k t17 ∷ []))
+    ≡ chain t8 t9 t10 t11 t12 t13 t17
 unfolding first_of
-chain_number k true t9 t10 t11 t12 t13 = refl
-chain_number k false true t10 t11 t12 t13 = refl
-chain_number k false false true t11 t12 t13 = refl
-chain_number k false false false true t12 t13 = refl
-chain_number k false false false false true t13 = refl
-chain_number k false false false false false true = refl
-chain_number k false false false false false false = refl
+chain_number k true t9 t10 t11 t12 t13 t17 = refl
+chain_number k false true t10 t11 t12 t13 t17 = refl
+chain_number k false false true t11 t12 t13 t17 = refl
+chain_number k false false false true t12 t13 t17 = refl
+chain_number k false false false false true t13 t17 = refl
+chain_number k false false false false false true t17 = refl
+chain_number k false false false false false false true = refl
+chain_number k false false false false false false false = refl
 
--- the last two count only where 9 and 10 do not apply
-chain_last : (t8 t9 t10 t11 x y u v : Bool) → (t9 ≡ false → t10 ≡ false → (x ≡ y) × (u ≡ v))
-    → chain t8 t9 t10 t11 x u ≡ chain t8 t9 t10 t11 y v
-chain_last true t9 t10 t11 x y u v h = refl
-chain_last false true t10 t11 x y u v h = refl
-chain_last false false true t11 x y u v h = refl
-chain_last false false false t11 x y u v h =
+-- 12 and 13 count only where 9 and 10 do not apply
+chain_last : (t8 t9 t10 t11 x y u v t17 : Bool) → (t9 ≡ false → t10 ≡ false → (x ≡ y) × (u ≡ v))
+    → chain t8 t9 t10 t11 x u t17 ≡ chain t8 t9 t10 t11 y v t17
+chain_last true t9 t10 t11 x y u v t17 h = refl
+chain_last false true t10 t11 x y u v t17 h = refl
+chain_last false false true t11 x y u v t17 h = refl
+chain_last false false false t11 x y u v t17 h =
     let q = h refl refl in
-    ap₂ (λ (a b : Bool). cond t11 11 (cond a 12 (cond b 13 0))) q.0 q.1
+    ap₂ (λ (a b : Bool). cond t11 11 (cond a 12 (cond b 13 (cond t17 17 0)))) q.0 q.1
+
+-- the words of a K line to which rows 5 to 7 do not apply
+abbrev FiguresFit : Record → Type 0
+FiguresFit r = kind r ≡ PrecursorFigures → FiguresRange (get_or (said_words r) 0 0) (get_or (said_words r) 1 0)
+
+figures_fit : (limits : Limits) (k : Kind) (rest : List Rule) (ws : List ℕ) → Fitting 0 (rules limits k rest) ws → k ≡ PrecursorFigures
+    → FiguresRange (get_or ws 0 0) (get_or ws 1 0)
+unfolding rules
+figures_fit limits k rest ws h e = let f = rw e at h in (f.0.0, f.0.1, f.1.0.0, f.1.0.1)
 
 not_leb : (a b : ℕ) → not (leb a b) ≡ ltb b a
 not_leb a b =
@@ -79,7 +104,7 @@ twice a true e = sym (ap not e)
 twice a false e = sym (ap not e)
 
 module _ (limits : Limits) (above : List Record) (r : Record) (a : Above) (said : AboveHeld limits above r a)
-    (num : (k : ℕ) → k < 4 → number_at r k ≡ get_or (said_words r) k 0) where
+    (num : (k : ℕ) → k < 4 → number_at r k ≡ get_or (said_words r) k 0) (fit : FiguresFit r) where
   abbrev w : ℕ → ℕ
   w k = get_or (said_words r) k 0
 
@@ -130,14 +155,28 @@ module _ (limits : Limits) (above : List Record) (r : Record) (a : Above) (said 
       go true e = let q = good (kind_is OwnGood r e) in (ap (λ (t : Bool). is OwnGood r && t) q.0, ap (λ (t : Bool). is OwnGood r && t) q.1)
       go false e = (rw e, rw e)
 
+  -- 17
+  same_17 : second_of_rank above r ≡ stated (kind r) (w 1) a
+  same_17 = go (is PrecursorFigures r) refl
+    where
+      any : kind r ≡ PrecursorFigures → any_stated above (stated_precursor r) (rank r) ≡ is_stated a.ranks (w 1)
+      any e =
+          ap₂ (any_stated above) (num 0 (omega arith)) (num 1 (omega arith)) ∙ sym (said.ranks (w 0) (w 1) refl refl e (fit e))
+
+      go : (t : Bool) → is PrecursorFigures r ≡ t → (is PrecursorFigures r && any_stated above (stated_precursor r) (rank r)) ≡ stated (kind r) (w 1) a
+      go true e = ap (λ (t : Bool). is PrecursorFigures r && t) (any (kind_is PrecursorFigures r e))
+      go false e = rw e
+
   order_number_lem : (k : ℕ) → number_of (first_of (order_checks k above r)) ≡ order_number (kind r) (said_words r) a
   unfolding order_number
   order_number_lem k =
-      chain_number k (process_not_next above r) (missing_process above r) (ends_not_allowed r) (no_standard_value r) (second_of_pair above r) (output_exceeded above r)
-      ∙ ap₂ (λ (x y : Bool). chain x y (ends_not_allowed r) (no_standard_value r) (second_of_pair above r) (output_exceeded above r)) same_8 same_9
-      ∙ ap₂ (λ (x y : Bool). chain eight nine x y (second_of_pair above r) (output_exceeded above r)) same_10 same_11
+      chain_number k (process_not_next above r) (missing_process above r) (ends_not_allowed r) (no_standard_value r) (second_of_pair above r)
+      (output_exceeded above r) (second_of_rank above r)
+      ∙ ap₂ (λ (x y : Bool). chain x y (ends_not_allowed r) (no_standard_value r) (second_of_pair above r) (output_exceeded above r) (second_of_rank above r)) same_8 same_9
+      ∙ ap₂ (λ (x y : Bool). chain eight nine x y (second_of_pair above r) (output_exceeded above r) (second_of_rank above r)) same_10 same_11
       ∙ chain_last eight nine (ends_of (kind r) (w 0) (w 1)) (no_standard (kind r) (w 2) (w 4) (w 5))
-      (second_of_pair above r) (second (kind r) a) (output_exceeded above r) (exceeded (kind r) (w 2) a) same_good
+      (second_of_pair above r) (second (kind r) a) (output_exceeded above r) (exceeded (kind r) (w 2) a) (second_of_rank above r) same_good
+      ∙ ap (chain eight nine (ends_of (kind r) (w 0) (w 1)) (no_standard (kind r) (w 2) (w 4) (w 5)) (second (kind r) a) (exceeded (kind r) (w 2) a)) same_17
     where
       eight : Bool
       eight = not_next (kind r) (w 0) a
@@ -145,7 +184,7 @@ module _ (limits : Limits) (above : List Record) (r : Record) (a : Above) (said 
       nine : Bool
       nine = missing (kind r) (w 0) (w 1) a
 
--- ---- 2 to 13
+-- ---- 2 to 13 and 17
 
 -- every check of a line has a number, and the line's
 record At (line : ℕ) (c : Check) : Type 0 where
@@ -184,7 +223,7 @@ module _ (limits : Limits) where
         n 1 _,
         all_join (At k) (shape_checks (sheet_table limits) k l) _
             (n 2 _, (n 3 _, (n 4 _, fields_at k ((sheet_table limits).rules (record_of l)) (record_of l).said)))
-            (n 7 _, (n 8 _, (n 9 _, (n 10 _, (n 11 _, (n 12 _, tt)))))),
+            (n 7 _, (n 8 _, (n 9 _, (n 10 _, (n 11 _, (n 12 _, (n 16 _, tt))))))),
       )
 
 -- the number that the code gives a line
@@ -213,7 +252,7 @@ module _ (limits : Limits) (small : limits.processes < CAP) (above : List Record
       number_cons _ _ ∙ ap (cond (too_many_lines limits (suc (length above))) 2) (shape_number_lem (sheet_table limits) l fits k (order_checks k above r) ∙ passed)
       ∙ ap (λ (n : ℕ). cond (too_many_lines limits (suc n)) 2 later) (sym said.lines)
     where
-      -- 3 to 13
+      -- 3 to 13 and 17
       later : ℕ
       later = cond l.ended (kind_number limits (kind r) (length r.said) (said_words r) a) 3
 
@@ -224,7 +263,8 @@ module _ (limits : Limits) (small : limits.processes < CAP) (above : List Record
       shape = table_number (sheet_table limits) l
 
       last : (n : ℕ) → shape ≡ n → or_else n (number_of (first_of (order_checks k above r))) ≡ or_else n (order_number (kind r) (said_words r) a)
-      last zero e = order_number_lem limits above r a said (λ j h. sym (early_word (sheet_table limits) l fits e j h)) k
+      last zero e = order_number_lem limits above r a said (λ j h. sym (early_word (sheet_table limits) l fits e j h))
+          (figures_fit limits (kind r) _ (said_words r) (words_fitting (sheet_table limits) l fits e)) k
       last (suc n) e = else_first (suc n) _ (λ z. omega arith) ∙ sym (else_first (suc n) _ (λ z. omega arith))
 
       ended : (t : Bool) (n m : ℕ) → or_else (cond t n 3) m ≡ cond t (or_else n m) 3

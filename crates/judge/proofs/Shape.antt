@@ -143,6 +143,10 @@ module _ (table : Table) (l : Line) (fits : FitsWords (table.rules (record_of l)
       go true false false e h = absurd (omega arith)
       go true false true e h = (eqb-true _ _ e, words_fit 0 (table.rules said) (said_words said) h)
 
+  -- the words fit the rules
+  pub words_fitting : Fitting 0 (table.rules (record_of l)) (said_words (record_of l))
+  words_fitting = parts.1
+
   -- the words of the first four fields are their numbers, 0 where there is none
   pub early_word : (k : ℕ) → k < 4 → get_or (said_words (record_of l)) k 0 ≡ number_at (record_of l) k
   early_word k h =

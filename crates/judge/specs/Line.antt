@@ -11,7 +11,7 @@ use Rattle.checks.specs.Judged.{kind_number}
 abbrev pub shape_number : (ended unknown : Bool) → List Rule → (count : ℕ) → (words : List ℕ) → ℕ
 shape_number ended unknown rs count words = cond ended (cond unknown 4 (cond (eqb count (length rs)) (words_number 0 rs words) 5)) 3
 
--- 2 to 13 of a line of a sheet
+-- 2 to 13 and 17 of a line of a sheet
 abbrev pub line_number : Limits → (ended : Bool) → (letter count : ℕ) → (words : List ℕ) → Above → ℕ
 line_number limits ended letter count words above =
     cond (too_many_lines limits (suc above.lines)) 2 (cond ended (kind_number limits (kind_of letter) count words above) 3)

@@ -20,14 +20,16 @@ use Rattle.ledger.specs.Ledger.{start}
 use Rattle.ledger.specs.declared.Ledger.{Ledger}
 use Rattle.entries.specs.Read.{LineKeeps}
 use Rattle.goods.specs.Settling.{PAIRS}
-use Rattle.works.specs.Works.{above_at, above_of, lacks_lf, read_number, noted_after, kilos_after, nothing_noted, RoomForLine}
+use Rattle.works.specs.Works.{above_at, above_of, lacks_lf, read_number, noted_after, stated_after, kilos_after, nothing_noted, nothing_stated, RoomForLine}
 use Rattle.works.specs.declared.Noted.{Noted}
+use Rattle.works.specs.declared.Stated.{Stated}
 use Rattle.works.specs.declared.Works.{Works}
 use Rattle.places.proofs.NextLine.{lines_done}
+use Rattle.gathering.specs.Gathered.{StatedIn}
 use Rattle.gathering.proofs.AnyOrder.{SameSums, same_length}
 use Rattle.gathering.proofs.AllLines.{Reading}
 use Rattle.gathering.proofs.Standing.{room_for_line}
-use Rattle.gathering.proofs.FromBytes.{ReadingAt, here, at_start, accepted_at, refused_at_lem, keeps_at, end_at, next_at, verdict_at}
+use Rattle.gathering.proofs.FromBytes.{ReadingAt, here, at_start, accepted_at, refused_at_lem, keeps_at, end_at, next_at, verdict_at, stated_in_all}
 use Rattle.lent.specs.Lent.{RECORD, sheet_lent}
 use Rattle.judged.specs.Judged.{sheet_given, size_given, Spelt, Near}
 use Rattle.judged.proofs.Given.{there, next_lent, ended_lent}
@@ -39,15 +41,15 @@ end_fits true bytes list lines few end near inside long = let low = near refl in
 end_fits false bytes list lines few end near inside long = omega arith
 
 -- the lines above are judged and noted, those from a place on are left
-pub record JudgingAt (lent : Bool) (bytes list : List ℕ) (size : Option ℕ) (kilos : List ℕ) (noted : Noted) (at : ℕ) : Type 0 where
+pub record JudgingAt (lent : Bool) (bytes list : List ℕ) (size : Option ℕ) (stated : Stated) (kilos : List ℕ) (noted : Noted) (at : ℕ) : Type 0 where
   pub sized : size ≡ size_given lent bytes
   pub books : Ledger
-  pub reading : ReadingAt (sheet_given lent bytes list) at (record { noted = noted; ledger = books }) kilos
+  pub reading : ReadingAt (sheet_given lent bytes list) at (record { noted = noted; ledger = books }) stated kilos
   pub spelt : Spelt lent list at noted.lines
   pub near : Near lent at noted.lines
 
 pub judging_start : (lent : Bool) (bytes list : List ℕ) (size : Option ℕ) → size ≡ size_given lent bytes
-    → JudgingAt lent bytes list size (replicate PAIRS 0) nothing_noted 0
+    → JudgingAt lent bytes list size nothing_stated (replicate PAIRS 0) nothing_noted 0
 judging_start lent bytes list size long = record {
   sized = long;
   books = start;
@@ -56,8 +58,8 @@ judging_start lent bytes list size long = record {
   near = λ e. omega arith;
 }
 
-module _ {lent : Bool} {bytes list : List ℕ} {size : Option ℕ} {kilos : List ℕ} {noted : Noted} {at : ℕ}
-    (j : JudgingAt lent bytes list size kilos noted at) where
+module _ {lent : Bool} {bytes list : List ℕ} {size : Option ℕ} {stated : Stated} {kilos : List ℕ} {noted : Noted} {at : ℕ}
+    (j : JudgingAt lent bytes list size stated kilos noted at) where
   abbrev sheet : List ℕ
   sheet = sheet_given lent bytes list
 
@@ -71,7 +73,7 @@ module _ {lent : Bool} {bytes list : List ℕ} {size : Option ℕ} {kilos : List
   few = omega (arith, j.reading.left.standing.lines, j.reading.left.standing.few)
 
   pub room : RoomForLine noted kilos
-  room = room_for_line _ _ _ j.reading.left.standing
+  room = room_for_line _ _ _ _ j.reading.left.standing
 
   -- ---- a line is there
 
@@ -88,22 +90,22 @@ module _ {lent : Bool} {bytes list : List ℕ} {size : Option ℕ} {kilos : List
             let inside = ended_lent list at lines (spelt refl) some l.end read.end in
             sym (ne_eqb l.end (length (sheet_lent list)) (λ z. omega arith))
 
-    number_is : read_number limits l size (above_of works kilos l) ≡ read_number limits l (Some (length sheet)) (above_of works kilos l)
+    number_is : read_number limits l size (above_of works stated kilos l) ≡ read_number limits l (Some (length sheet)) (above_of works stated kilos l)
     number_is = rw ended
 
-    pub judged_refused : (n : ℕ) → n ≡ read_number limits l size (above_at noted kilos l) → (n ≡ 0 → ⊥)
+    pub judged_refused : (n : ℕ) → n ≡ read_number limits l size (above_at noted stated kilos l) → (n ≡ 0 → ⊥)
         → first_of (lines_checks limits [] (lines_of (sheet_given lent bytes list))) ≡ refused n (noted.lines + 1)
-    judged_refused n e some = refused_at_lem sheet at works kilos j.reading more l read n (e ∙ number_is) some
+    judged_refused n e some = refused_at_lem sheet at works stated kilos j.reading more l read n (e ∙ number_is) some
 
-    module _ (zero : read_number limits l size (above_at noted kilos l) ≡ 0) where
-      ok : first_of (line_checks limits (here sheet at works kilos j.reading more l read).above (line_at sheet at)) ≡ accepted
-      ok = accepted_at sheet at works kilos j.reading more l read (sym number_is ∙ zero)
+    module _ (zero : read_number limits l size (above_at noted stated kilos l) ≡ 0) where
+      ok : first_of (line_checks limits (here sheet at works stated kilos j.reading more l read).above (line_at sheet at)) ≡ accepted
+      ok = accepted_at sheet at works stated kilos j.reading more l read (sym number_is ∙ zero)
 
       pub judged_keeps : LineKeeps l
-      judged_keeps = keeps_at sheet at works kilos j.reading more l read ok
+      judged_keeps = keeps_at sheet at works stated kilos j.reading more l read ok
 
       pub judged_end : l.end < length (sheet_given lent bytes list)
-      judged_end = end_at sheet at works kilos j.reading more l read ok
+      judged_end = end_at sheet at works stated kilos j.reading more l read ok
 
       next_spelt : Spelt lent list (l.end + 1) (lines + 1)
       next_spelt e = go lent e j.spelt more read
@@ -115,13 +117,13 @@ module _ {lent : Bool} {bytes list : List ℕ} {size : Option ℕ} {kilos : List
           go false e spelt more read = absurd (never e)
 
       -- the next place
-      pub judging_next : Near lent (l.end + 1) (noted.lines + 1) → {noted' : Noted} {kilos' : List ℕ} → noted' ≡ noted_after noted l
-          → kilos' ≡ kilos_after kilos l → JudgingAt lent bytes list size kilos' noted' (l.end + 1)
-      judging_next near noted-are kilos-are =
-          rw (noted-are, kilos-are) (record {
+      pub judging_next : Near lent (l.end + 1) (noted.lines + 1) → {noted' : Noted} {stated' : Stated} {kilos' : List ℕ} → noted' ≡ noted_after noted l
+          → stated' ≡ stated_after stated l → kilos' ≡ kilos_after kilos l → JudgingAt lent bytes list size stated' kilos' noted' (l.end + 1)
+      judging_next near noted-are stated-are kilos-are =
+          rw (noted-are, stated-are, kilos-are) (record {
             sized = j.sized;
             books = _;
-            reading = next_at sheet at works kilos j.reading more l read ok;
+            reading = next_at sheet at works stated kilos j.reading more l read ok;
             spelt = next_spelt;
             near = near;
           })
@@ -130,9 +132,9 @@ module _ {lent : Bool} {bytes list : List ℕ} {size : Option ℕ} {kilos : List
 
   module _ (done : length (sheet_given lent bytes list) ≤ at) where
     pub judged_accepted : first_of (lines_checks limits [] (lines_of (sheet_given lent bytes list))) ≡ accepted
-    judged_accepted = verdict_at sheet at works kilos j.reading done
+    judged_accepted = verdict_at sheet at works stated kilos j.reading done
 
-    none : Reading (lines_of sheet) [] works kilos
+    none : Reading (lines_of sheet) [] works stated kilos
     none = rw (lines_done sheet at done) at j.reading.left
 
     same : SameSums none.above (records_of sheet)
@@ -141,6 +143,9 @@ module _ {lent : Bool} {bytes list : List ℕ} {size : Option ℕ} {kilos : List
 
     pub judged_lines : noted.lines ≡ length (records_of (sheet_given lent bytes list))
     judged_lines = none.standing.lines ∙ same_length none.above (records_of sheet) same
+
+    pub judged_stated : StatedIn (records_of (sheet_given lent bytes list)) stated
+    judged_stated = stated_in_all sheet at works stated kilos j.reading done
 
     pub judged_length : at ≡ length (sheet_given lent bytes list)
     judged_length = omega (arith, j.reading.inside, done)

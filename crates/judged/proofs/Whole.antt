@@ -1,6 +1,6 @@
 -- Rows 1 and 14, then those of the lines. Assumes nothing.
 use mathlib.Core.Path.{◌≡◌, refl, ap, ◌∙◌}
-use mathlib.Core.List.{List, [], ◌∷◌}
+use mathlib.Core.List.{List, [], ◌∷◌, ◌++◌}
 use Prim.Native.Nat.{ℕ, zero, suc, ◌+◌, ◌≤◌, ◌<◌}
 use native.Mathlib.Omega.{arith}
 use borrow.Author.Tests.{lt-ltb, le-ltb, eq-eqb, ne_eqb}
@@ -13,6 +13,7 @@ use Rattle.checks.specs.declared.refusals.Refused.{Refused}
 use Rattle.lent.specs.Lent.{RECORD, record_lent, spell_lent, sheet_lent}
 use Rattle.lent.specs.AsRead.{words_at}
 use Rattle.lent.proofs.Steps.{sheet_first, sheet_none}
+use Rattle.gathering.specs.Gathered.{uses_of}
 use Rattle.judged.specs.Judged.{LinesJudged, SheetJudged}
 use Rattle.judged.specs.declared.Judged.{Judged}
 
@@ -30,7 +31,8 @@ module _ (sheet : List ℕ) where
       rw (le-ltb limits.bytes (length sheet) h, eq-eqb (length sheet) 0 e)
 
   -- the lines
-  by_lines : length sheet ≤ limits.bytes → (length sheet ≡ 0 → ⊥) → first_of (sheet_checks limits sheet) ≡ first_of (lines_checks limits [] (lines_of sheet))
+  by_lines : length sheet ≤ limits.bytes → (length sheet ≡ 0 → ⊥)
+      → first_of (sheet_checks limits sheet) ≡ first_of (lines_checks limits [] (lines_of sheet) ++ uses_of sheet)
   unfolding sheet_checks first_of
   by_lines h e = rw (le-ltb limits.bytes (length sheet) h, ne_eqb (length sheet) 0 e)
 

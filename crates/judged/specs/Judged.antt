@@ -1,11 +1,12 @@
 -- For the code only: a sheet judged from its bytes or from lent records.
-use Rattle.std.specs.Prelude.{◌≡◌, Bool, true, false, cond, List, [], Option, None, Some, ℕ, ◌*◌, ◌≤◌, length, drop, Result, MatchResult}
+use Rattle.std.specs.Prelude.{◌≡◌, Bool, true, false, cond, ⊤, List, [], ◌++◌, Option, None, Some, ℕ, ◌*◌, ◌≤◌, length, drop, Result, MatchResult}
 use Rattle.quantity.specs.Limits.{limits}
 use Rattle.lines.specs.Lines.{lines_of}
 use Rattle.lines.specs.Records.{records_of}
 use Rattle.sheet.specs.Verdict.{Verdict, accepted, first_of, lines_checks, sheet_checks}
 use Rattle.checks.specs.Numbers.{refused_by}
 use Rattle.checks.specs.declared.refusals.Refused.{Refused}
+use Rattle.gathering.specs.Gathered.{uses_of}
 use Rattle.lent.specs.Lent.{RECORD, sheet_lent}
 use Rattle.judged.specs.declared.SheetGiven.{SheetGiven}
 use Rattle.judged.specs.declared.SheetGiven.TheVariants.{Bytes, Lent}
@@ -53,10 +54,14 @@ pub record Passed (sheet : List ℕ) (v : Verdict) (j : Judged) : Type 0 where
 abbrev pub Found : (sheet : List ℕ) → Verdict → Result Judged Refused → Type 0
 Found sheet v r = MatchResult r (Passed sheet v) (λ e. v ≡ refused_by e)
 
--- rows 2 to 13
-abbrev pub LinesJudged : (sheet : List ℕ) → Result Judged Refused → Type 0
-LinesJudged sheet r = Found sheet (first_of (lines_checks limits [] (lines_of sheet))) r
+-- row 18 over all lines
+abbrev pub UsesJudged : (sheet : List ℕ) → Result ⊤ Refused → Type 0
+UsesJudged sheet r = MatchResult r (λ _. first_of (uses_of sheet) ≡ accepted) (λ e. first_of (uses_of sheet) ≡ refused_by e)
 
--- rows 1 to 14
+-- rows 2 to 13 and 17, and then row 18
+abbrev pub LinesJudged : (sheet : List ℕ) → Result Judged Refused → Type 0
+LinesJudged sheet r = Found sheet (first_of (lines_checks limits [] (lines_of sheet) ++ uses_of sheet)) r
+
+-- rows 1 to 14, 17 and 18
 abbrev pub SheetJudged : (sheet : List ℕ) → Result Judged Refused → Type 0
 SheetJudged sheet r = Found sheet (first_of (sheet_checks limits sheet)) r

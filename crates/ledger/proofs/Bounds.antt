@@ -18,7 +18,7 @@ use Rattle.ledger.proofs.Sizes.{size_plus, size_minus, size_moved}
 -- ---- every place of an array
 
 module _ {A : Type 0} (P : A → Type 0) (d : A) where
-  each_set : (l : List A) (i : ℕ) (v : A) → ((j : ℕ) → P (get_or l j d)) → P v → (j : ℕ) → P (get_or (set l i v) j d)
+  pub each_set : (l : List A) (i : ℕ) (v : A) → ((j : ℕ) → P (get_or l j d)) → P v → (j : ℕ) → P (get_or (set l i v) j d)
   each_set l i v all new j =
       elim (ℕ_discrete j i) [
         | yes p ↦

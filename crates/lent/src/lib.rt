@@ -26,8 +26,9 @@ pub fn field_count(letter: u64) -> usize
     match u8::try_from(letter).map_or(Kind::Unknown, Kind::from) {
         Kind::Process => 2,
         Kind::SourceStream => 8,
-        Kind::MeasurableHeat | Kind::Electricity | Kind::BoughtPrecursor => 4,
-        Kind::WasteGas | Kind::OwnGood => 3,
+        Kind::MeasurableHeat | Kind::Electricity | Kind::BoughtPrecursor | Kind::PrecursorFigures =>
+            4,
+        Kind::WasteGas | Kind::OwnGood | Kind::PrecursorUse => 3,
         Kind::Unknown => 0,
     }
 }
@@ -175,6 +176,7 @@ fn line_of(words: &[u64], start: usize) -> LineRead
 // The record that starts at a place of the list, as the line that it spells. The two calls are the same but for what the compiler knows: a
 // record that the list's end does not cut short has nine words.
 #[tactic(auto, using(crate::proofs::Stores::cut_at, crate::proofs::Stores::full_at))]
+#[inline(always)]
 pub fn lent_line(list: &[u64], place: usize, start: usize) -> LineRead
     requires place_in_bounds { place < length list.now }
     requires start_bound { start ≤ 2 ^ 32 }

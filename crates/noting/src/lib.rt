@@ -1,14 +1,16 @@
-// One line more: the output that a P line states, the kilograms that a G line takes.
+// One line more: the output that a P line states, the kilograms that a G line takes, the rank and the end of a K line, and that an N line is there.
 #![tactic(auto)]
 
 ghost use Rattle.std.specs.Prelude.{◌≡◌};
-ghost use Rattle.works.specs.Works.{output_noted, taken_noted, pair_noted, noted_after, kilos_after, OutputAsked, KilosAsked, RoomForLine};
+ghost use Rattle.works.specs.Works.{output_noted, taken_noted, pair_noted, figures_noted, noted_after, stated_after, kilos_after};
+ghost use Rattle.works.specs.Works.{OutputAsked, KilosAsked, FiguresAsked, RoomForLine};
 
 use entries::KeptLine;
 use goods::{KilosByPair, KilosByProcess, SIZE};
 use lines::LineRead;
+use quantity::limits::BYTES;
 use sheet::Kind;
-use works::Noted;
+use works::{Noted, Stated};
 
 // A P line: the output of its process.
 fn note_output(outputs: &mut KilosByProcess, l: &LineRead)
@@ -31,10 +33,25 @@ fn note_good(taken: &mut KilosByProcess, kilos: &mut KilosByPair, l: &LineRead)
     kilos[from * SIZE + to] += kg;
 }
 
+// A K line: its end, where no lower rank number is stated, and the bit of its rank. The sheet that lent records spell can be longer than the ends
+// that are held; it is refused by row 1, and no figures are read from it.
+fn note_figures(stated: &mut Stated, l: &LineRead)
+    requires { FiguresAsked l.now }
+    ensures { stated.new ≡ figures_noted stated.old l.now }
+{
+    let precursor = l.words[0] as usize;
+    let bit: u8 = 1 << l.words[1];
+    if stated.ranks[precursor] % bit == 0 {
+        stated.ends[precursor] = (l.end % BYTES) as u16;
+    }
+    stated.ranks[precursor] |= bit;
+}
+
 // A line noted.
-pub fn note_line(noted: &mut Noted, kilos: &mut KilosByPair, kept: KeptLine)
+pub fn note_line(noted: &mut Noted, stated: &mut Stated, kilos: &mut KilosByPair, kept: KeptLine)
     requires { RoomForLine noted.old kilos.old }
     ensures noted { noted.new ≡ noted_after noted.old kept.entry.line.now }
+    ensures stated { stated.new ≡ stated_after stated.old kept.entry.line.now }
     ensures pairs { kilos.new ≡ kilos_after kilos.old kept.entry.line.now }
 {
     let l = kept.line;
@@ -45,6 +62,8 @@ pub fn note_line(noted: &mut Noted, kilos: &mut KilosByPair, kept: KeptLine)
             noted.count += 1;
         }
         Kind::OwnGood => note_good(&mut noted.taken, kilos, l),
+        Kind::PrecursorFigures => note_figures(stated, l),
+        Kind::PrecursorUse => stated.used = true,
         _ => {}
     }
 }

@@ -1,9 +1,9 @@
-// Document 01, "Sheets sent back", rows 8 to 13: the line under the lines above it.
+// Document 01, "Sheets sent back", rows 8 to 13, and document 02, ticket 4, row 17: the line under the lines above it.
 #![tactic(auto)]
 
-ghost use Rattle.std.specs.Prelude.{◌≡◌};
+ghost use Rattle.std.specs.Prelude.{◌≡◌, ◌<◌};
 ghost use Rattle.checks.specs.Numbers.{number_judged};
-ghost use Rattle.checks.specs.Steps.{next_number, named_number, ends_number, standard_number, good_number};
+ghost use Rattle.checks.specs.Steps.{next_number, named_number, ends_number, standard_number, good_number, rank_number};
 
 use checks::above::Above;
 use checks::refusals::Refusal;
@@ -73,6 +73,17 @@ pub fn left(kg: Kilos, above: Above) -> Result<(), Refusal>
     }
     if output - taken < kg.0 {
         return Err(Refusal::OutputExceeded);
+    }
+    Ok(())
+}
+
+// Row 17 of a K line: no K line above states its rank of its precursor.
+pub fn unstated(rank: u64, above: Above) -> Result<(), Refusal>
+    requires rank_range { rank < 64 }
+    ensures { number_judged result ≡ rank_number rank above }
+{
+    if (above.ranks >> rank) & 1 == 1 {
+        return Err(Refusal::SecondOfRank);
     }
     Ok(())
 }

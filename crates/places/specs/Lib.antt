@@ -1,2 +1,3 @@
--- For the reader: LinePlace.
+-- For the reader: LinePlace. For the code only: LineStart.
 pub mod LinePlace
+pub mod LineStart

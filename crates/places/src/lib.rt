@@ -5,6 +5,7 @@ ghost use Rattle.std.specs.Prelude.{◌≡◌, ◌+◌, ◌≤◌, length, drop}
 ghost use Rattle.lines.specs.Lines.{lines_of, line_start};
 ghost use Rattle.lines.specs.Words.{line_length};
 ghost use Rattle.places.specs.LinePlace.{offending_line, part_of, behind};
+ghost use Rattle.places.specs.LineStart.{start_of};
 
 // Where a line stands in the sheet, without its LF.
 #[derive(Clone, Copy)]
@@ -34,6 +35,18 @@ fn line_start(s: &[u8], line: usize) -> usize
             return start;
         }
         start = line_end(s, start) + 1;
+    }
+    start
+}
+
+// The place where the line starts that ends here.
+pub fn start_before(s: &[u8], end: usize) -> usize
+    requires { end ≤ length s.now }
+    ensures { result ≡ start_of s.now end }
+{
+    let mut start = end;
+    while start > 0 && s[start - 1] != b'\n' {
+        start -= 1;
     }
     start
 }

@@ -52,8 +52,8 @@ module _ (rs : List Record) (w : Works) (kilos : List ℕ) (g : Gathered rs w ki
     made = g.made;
     outputs_small = g.outputs_small;
     outputs = record { size = g.outputs_size; at = λ k l m. g.output_at k; outside = outputs_outside };
-    directs = column closed.direct (λ k l m. ap raised_to_zero (g.balance_at k));
-    indirects = column closed.indirect (λ k l m. g.indirect_at k);
+    directs = column closed.direct (λ k l m. ap raised_to_zero (g.books.balance_at k));
+    indirects = column closed.indirect (λ k l m. g.books.indirect_at k);
     raiseds = column closed.raised (λ k l m. raised_is rs w kilos g ok k);
     direct_pools = column closed.direct_pools (λ k l m. pool_same _ _ (own_direct_is rs w kilos g ok) k m);
     indirect_pools = column closed.indirect_pools (λ k l m. pool_same _ _ (own_indirect_is rs w kilos g ok) k m);
@@ -62,10 +62,10 @@ module _ (rs : List Record) (w : Works) (kilos : List ℕ) (g : Gathered rs w ki
     left_is = closed.left ∙ ap₂ (λ (x y : ℕ). x + y)
         (sum_cong w.noted.count _ _ (λ k l m. left_same _ _ (own_direct_is rs w kilos g ok) k l m) ∙ ap (λ (m : ℕ). sum_to m (direct_left rs)) g.count)
         (sum_cong w.noted.count _ _ (λ k l m. left_same _ _ (own_indirect_is rs w kilos g ok) k l m) ∙ ap (λ (m : ℕ). sum_to m (indirect_left rs)) g.count);
-    entered_is = g.entered_is;
+    entered_is = g.books.entered_is;
     raised_is = closed.total_raised ∙ raised_sum rs w kilos g ok;
-    uncredited_is = g.uncredited_is;
-    entered_small = omega (arith, g.room.entered);
+    uncredited_is = g.books.uncredited_is;
+    entered_small = omega (arith, g.books.room.entered);
   }
     where
       outputs_outside : NoneOutside w.noted.count w.noted.outputs.0

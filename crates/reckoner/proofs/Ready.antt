@@ -27,14 +27,14 @@ module _ (rs : List Record) (w : Works) (kilos : List ℕ) (g : Gathered rs w ki
   -- attribution and bought grams are document 01's
   pub own_direct_is : (k : ℕ) → own_direct w.ledger k ≡ direct rs k + bought_direct rs k
   unfolding direct
-  own_direct_is k = ap₂ (λ (x y : ℕ). x + y) (ap raised_to_zero (g.balance_at k)) (g.bought_direct_at k)
+  own_direct_is k = ap₂ (λ (x y : ℕ). x + y) (ap raised_to_zero (g.books.balance_at k)) (g.books.bought_direct_at k)
 
   pub own_indirect_is : (k : ℕ) → own_indirect w.ledger k ≡ indirect rs k + bought_indirect rs k
-  own_indirect_is k = ap₂ (λ (x y : ℕ). x + y) (g.indirect_at k) (g.bought_indirect_at k)
+  own_indirect_is k = ap₂ (λ (x y : ℕ). x + y) (g.books.indirect_at k) (g.books.bought_indirect_at k)
 
   pub raised_is : (k : ℕ) → raised_held w.ledger k ≡ raised rs k
   unfolding raised
-  raised_is k = ap grams_added (g.balance_at k)
+  raised_is k = ap grams_added (g.books.balance_at k)
 
   count_in : (j : ℕ) → j ≤ w.noted.count → j < SIZE
   count_in j h = omega (arith, g.few)
@@ -71,10 +71,10 @@ module _ (rs : List Record) (w : Works) (kilos : List ℕ) (g : Gathered rs w ki
   pub ready : SumsBelow rs → Ready w.ledger w.noted.outputs.0 kilos w.noted.count
   ready sums = record {
     few = g.few;
-    balances = g.room.balances;
+    balances = g.books.room.balances;
     direct = settleable (own_direct w.ledger) (omega (arith, own_direct_sum, sums.into));
     indirect = settleable (own_indirect w.ledger) (omega (arith, own_indirect_sum, sums.into));
     own = omega (arith, own_direct_sum, own_indirect_sum, sums.into);
     raised = omega (arith, raised_sum, sums.raised);
-    none_beyond = λ k h. g.indirect_at k ∙ no_power n rs ok.valid k (omega (arith, g.count));
+    none_beyond = λ k h. g.books.indirect_at k ∙ no_power n rs ok.valid k (omega (arith, g.count));
   }

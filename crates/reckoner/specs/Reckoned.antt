@@ -1,4 +1,5 @@
--- For the reader. Document 01, "The report" and "Sheets sent back": the verdict and its line, and the figures of an accepted sheet.
+-- For the reader. Document 01, "The report" and "Sheets sent back", and document 02, ticket 4: the verdict and its line, and the figures of an
+-- accepted sheet.
 use Rattle.std.specs.Prelude.{◌≡◌, List, ℕ, ◌≤◌, ◌<◌, nat_abs, Result, MatchResult}
 use Rattle.lines.specs.Records.{Record, records_of}
 use Rattle.goods.specs.ByProcess.{Column}
@@ -7,6 +8,7 @@ use Rattle.sheet.specs.Verdict.{accepted, first_of}
 use Rattle.checks.specs.Numbers.{refused_by}
 use Rattle.checks.specs.declared.refusals.Refused.{Refused}
 use Rattle.attribution.specs.Attribution.{direct, indirect, raised}
+use Rattle.attribution.specs.Governing.{governed}
 use Rattle.attribution.specs.Reckoning.{process_count, output, direct_pool, indirect_pool, direct_left, indirect_left, total_left, entered, total_raised, uncredited}
 use Rattle.attribution.specs.Verdict.{reckoner_checks}
 use Rattle.sheet.specs.Most.{MOST}
@@ -33,10 +35,10 @@ pub record FiguresOf (rs : List Record) (r : Reckoning) : Type 0 where
   -- its sign aside, below 2^63
   pub entered_small : nat_abs r.entered.0 < whole_grams
 
--- no row applies: the figures
+-- no row applies: the figures, each N line weighed by those that govern its precursor
 pub record Figured (sheet : List ℕ) (r : Reckoning) : Type 0 where
   pub passed : first_of (reckoner_checks limits sheet) ≡ accepted
-  pub figured : FiguresOf (records_of sheet) r
+  pub figured : FiguresOf (governed (records_of sheet)) r
 
 -- the figures, or number and line of the first row that applies, and no figures
 abbrev pub Reckoned : (sheet : List ℕ) → Result Reckoning Refused → Type 0

@@ -1,4 +1,4 @@
-// Document 01, "Attribution", "Goods and precursors" and the figures of "The report": a sheet's bytes to its reckoning.
+// Document 01, "Attribution", "Goods and precursors" and the figures of "The report", and document 02, ticket 4: a sheet's bytes to its reckoning.
 #![tactic(auto)]
 
 ghost use Rattle.std.specs.Prelude.{pos, ◌+ℤ◌, ◌≡◌, IfOk};
@@ -18,18 +18,18 @@ use works::Works;
 // The figures of a works whose lines are all noted. Neither this function nor `reckon` is inlined: the compiler sets the large locals of a
 // function to zero where it starts, and hands large results of inlined functions on part by part.
 #[inline(never)]
-fn figures_of(works: &Works, kilos: &KilosByPair) -> Reckoning
+fn put_figures(r: &mut Reckoning, works: &Works, kilos: &KilosByPair)
     requires { Ready works.now.ledger works.now.noted.outputs.0 kilos.now works.now.noted.count }
-    ensures { ClosedAs works.now kilos.now result }
+    ensures { ClosedAs works.now kilos.now r.new }
 {
     let Works { noted, ledger } = works;
-    Reckoning {
+    *r = Reckoning {
         count: noted.count,
         outputs: noted.outputs,
         figures: close(*ledger, &noted.outputs, kilos, noted.count),
         entered: ledger.totals.entered,
         uncredited: ledger.totals.uncredited,
-    }
+    };
 }
 
 // The reckoning of a sheet.
@@ -47,7 +47,8 @@ pub fn reckon(s: &[u8]) -> Result<Reckoning, Refused>
     }
     let mut kilos: KilosByPair = [0; PAIRS];
     let works = read_lines(s, &mut kilos)?;
-    let r = figures_of(&works, &kilos);
+    let mut r = Reckoning::default();
+    put_figures(&mut r, &works, &kilos);
     if is_large(&r) {
         return Err(Refused::from(Refusal::FigureTooLarge));
     }

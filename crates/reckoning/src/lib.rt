@@ -5,7 +5,7 @@ use goods::{BothGramsByProcess, GramsByProcess, KilosByProcess};
 use quantity::{Grams, SignedGrams};
 
 // Grams of each process by its number, and the totals `left` and `raised` of the works.
-#[derive(Clone, Copy)]
+#[derive(Clone, Copy, Default)]
 pub struct Closing {
     // attribution, and the grams that raised the balance to zero
     pub attributed: BothGramsByProcess,
@@ -18,7 +18,7 @@ pub struct Closing {
 }
 
 // The reckoning of an accepted sheet: the figures of each process by its number and the totals.
-#[derive(Clone, Copy)]
+#[derive(Clone, Copy, Default)]
 pub struct Reckoning {
     pub count: usize,
     pub outputs: KilosByProcess,

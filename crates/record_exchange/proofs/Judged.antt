@@ -1,4 +1,4 @@
--- The verdict of rows 1 to 15 is that of rows 1 to 14. Assumes nothing.
+-- The verdict with row 15 is that without it. Assumes nothing.
 use mathlib.Core.Path.{◌≡◌, ◌∙◌}
 use mathlib.Core.List.{List}
 use Prim.Native.Nat.{ℕ}

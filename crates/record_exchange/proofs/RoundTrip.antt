@@ -1,5 +1,5 @@
 -- Document 02, ticket 1: the writer and the reader of records, what each gives, and that they undo each other. A sheet is accepted here where no
--- row 1 to 15 applies; no proof goes by kinds of lines. Assumes nothing.
+-- row but 16 applies; no proof goes by kinds of lines. Assumes nothing.
 use mathlib.Core.Path.{◌≡◌, refl, sym, ap, ap₂, ◌∙◌}
 use mathlib.Core.Logic.{◌↔◌}
 use mathlib.Core.Bool.{true}
@@ -28,12 +28,12 @@ use Rattle.record_exchange.specs.Exchange.{judged, exchange_checks, sheet_writte
 -- ---- a sheet
 
 module _ (sheet : List ℕ) where
-  -- no row 1 to 15 has the number 16
+  -- no row before it has the number 16
   not_sixteen : (k : ℕ) → judged sheet ≡ refused 16 k → ⊥
   not_sixteen = never_by 16 (reckoner_checks limits sheet) (rows_another limits sheet)
 
   module _ (a : judged sheet ≡ accepted) where
-    -- rows 1 to 14 alone
+    -- without row 15
     lines_accepted : first_of (sheet_checks limits sheet) ≡ accepted
     lines_accepted = sym (fifteen_never_given sheet) ∙ a
 
@@ -94,7 +94,7 @@ module _ (words space : List ℕ) where
   unfolding sheet_written
   written_refused = given_refused (sheet_lent words) (sheet_lent words) space
 
-  -- 16 is given only where no row 1 to 15 applies and the space is too short
+  -- 16 is given only where no other row applies and the space is too short
   pub written_sixteen : (sheet_written words space).number ≡ 16 → (judged (sheet_lent words) ≡ accepted) × (length space < length (sheet_lent words))
   unfolding sheet_written
   written_sixteen = given_sixteen (sheet_lent words) (sheet_lent words) space
@@ -130,7 +130,7 @@ module _ (sheet list : List ℕ) where
   unfolding records_read
   read_refused n k r = ap in_records (given_refused sheet (words_of (records_of sheet)) list n k r)
 
-  -- 16 is given only where no row 1 to 15 applies and the list is too short
+  -- 16 is given only where no other row applies and the list is too short
   pub read_sixteen : (records_read sheet list).number ≡ 16 → (judged sheet ≡ accepted) × (length list < length (words_of (records_of sheet)))
   unfolding records_read
   read_sixteen = given_sixteen sheet (words_of (records_of sheet)) list

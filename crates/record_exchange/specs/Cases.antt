@@ -16,6 +16,13 @@ process = 80 ∷ 1 ∷ 1000 ∷ 0 ∷ 0 ∷ 0 ∷ 0 ∷ 0 ∷ 0 ∷ []
 abbrev stream : List ℕ
 stream = 83 ∷ 1 ∷ 1 ∷ 16 ∷ 1000 ∷ D ∷ D ∷ 10000 ∷ 0 ∷ []
 
+-- `K,7,1,2000,500` and `N,1,7,3`
+abbrev figures : List ℕ
+figures = 75 ∷ 7 ∷ 1 ∷ 2000 ∷ 500 ∷ 0 ∷ 0 ∷ 0 ∷ 0 ∷ []
+
+abbrev precursor_use : List ℕ
+precursor_use = 78 ∷ 1 ∷ 7 ∷ 3 ∷ 0 ∷ 0 ∷ 0 ∷ 0 ∷ 0 ∷ []
+
 -- ---- the sheet that words spell, and what the writer gives of them and of a space
 
 pub record Written : Type 0 where
@@ -57,6 +64,9 @@ written =
     ∷ writes (80 ∷ 1 ∷ D ∷ []) "P,1,-\n" "......" 6 1 0 "......"
     -- the k-th record is line k: the second P is not the next process
     ∷ writes (process ++ (80 ∷ 1 ∷ 5 ∷ [])) "P,1,1000\nP,1,5\n" "................" 8 2 0 "................"
+    -- lines K and N, and an N line with no figures: a refusal after all lines has its line too
+    ∷ writes (process ++ (precursor_use ++ figures)) "P,1,1000\nN,1,7,3\nK,7,1,2000,500\n" "................................" 0 0 32 "P,1,1000\nN,1,7,3\nK,7,1,2000,500\n"
+    ∷ writes (process ++ precursor_use) "P,1,1000\nN,1,7,3\n" ".................." 18 2 0 ".................."
     -- a refused sheet's own number comes before 16
     ∷ writes (80 ∷ 1 ∷ 0 ∷ []) "P,1,0\n" "" 7 1 0 ""
     ∷ writes [] "" "" 14 0 0 ""
@@ -89,6 +99,9 @@ given =
     -- one record
     ∷ reads "P,1,1000\n" (sevens 9) 0 0 1 process
     ∷ reads "P,1,1000\n" (sevens 8) 16 0 0 (sevens 8)
+    -- lines K and N
+    ∷ reads "P,1,1000\nN,1,7,3\nK,7,1,2000,500\n" (sevens 27) 0 0 3 (process ++ (precursor_use ++ figures))
+    ∷ reads "P,1,1000\nN,1,7,3\n" (sevens 27) 18 2 0 (sevens 27)
     -- a refused sheet leaves every number, and its own number comes before 16
     ∷ reads "P,1,-\n" (sevens 9) 6 1 0 (sevens 9)
     ∷ reads "P,1,1000\nX" (sevens 18) 3 2 0 (sevens 18)

@@ -8,11 +8,11 @@ use Rattle.attribution.specs.Verdict.{reckoner_checks}
 use Rattle.report.specs.Outcome.{Outcome, outcome_of}
 use Rattle.lent.specs.Lent.{RECORD, record_lent, spell_lent, sheet_lent, words_of}
 
--- the verdict of rows 1 to 15: report space aside
+-- the verdict of every row but 16: report space aside
 abbrev pub judged : (sheet : List ℕ) → Verdict
 judged sheet = first_of (reckoner_checks limits sheet)
 
--- 1 to 15 of a sheet, then 16: what is to be put into the lent space or list is longer than it
+-- every row but 16 of a sheet, then 16: what is to be put into the lent space or list is longer than it
 unfoldable pub exchange_checks : (sheet put lent : List ℕ) → List Check
 exchange_checks sheet put lent = reckoner_checks limits sheet ++ (check 16 0 (ltb (length lent) (length put)) ∷ [])
 

@@ -6,3 +6,4 @@ pub mod OneReport
 pub mod Outcome
 pub mod Sixteen
 pub mod Longest
+pub mod Precursors

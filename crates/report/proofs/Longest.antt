@@ -22,6 +22,8 @@ use Rattle.sheet.specs.Verdict.{line_checks, lines_checks, sheet_checks}
 use Rattle.sheet.specs.Verdict.{All, Passes}
 use Rattle.sheet.proofs.First.{all_append, all_join, passes_accepted}
 use Rattle.sheet.proofs.Held.{Held, held_none, held_next, processes_after}
+use Rattle.attribution.specs.Governing.{governed}
+use Rattle.attribution.proofs.Governing.{governed_more}
 use Rattle.attribution.specs.Reckoning.{Row, Totals, process_count, row_of, rows_to, reckoning}
 use Rattle.attribution.specs.Verdict.{row_grams, total_grams, rows_grams, any_from, figure_too_large, reckoner_checks}
 use Rattle.report.specs.Report.{specific, report_row, report_of}
@@ -153,19 +155,21 @@ module _ (limits : Limits) where
     unfolding reckoner_checks sheet_checks records_of
     few =
         let both = all_append Passes (sheet_checks limits sheet) _ passed in
-        let h = few_below [] (lines_of sheet) 0 (held_none limits) both.0.1.1 in
+        let lines = (all_append Passes (lines_checks limits [] (lines_of sheet)) _ both.0.1.1).0 in
+        let h = few_below [] (lines_of sheet) 0 (held_none limits) lines in
         omega arith
 
-    grams_below : All Below (rows_grams (reckoning (records_of sheet)).rows ++ total_grams (reckoning (records_of sheet)).totals)
+    grams_below : All Below
+        (rows_grams (reckoning (governed (records_of sheet))).rows ++ total_grams (reckoning (governed (records_of sheet))).totals)
     unfolding reckoner_checks figure_too_large
     grams_below = none_from whole_grams _ (all_append Passes (sheet_checks limits sheet) _ passed).1.0
 
-    -- the report of a sheet that rows 1 to 15 pass
+    -- the report of a sheet that no row but 16 refuses
     pub report_most : length (sheet_report sheet) ≤ longest limits
     unfolding sheet_report report_bytes report_of reckoning
     report_most =
-        let rs : List Record = records_of sheet in
-        let n = few in
+        let rs : List Record = governed (records_of sheet) in
+        let n : process_count rs ≤ limits.processes = rw (governed_more (records_of sheet)).counted_is few in
         let small : process_count rs < 2 ^ 63 = omega arith in
         let m = lines_most (rows_to rs (process_count rs)) (reckoning rs).totals (rows_numbered rs (process_count rs) small) grams_below in
         omega (arith, rows_long rs (process_count rs))

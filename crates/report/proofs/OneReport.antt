@@ -11,6 +11,7 @@ use Rattle.std.proofs.lemmas.Option.{none-some, same_Some}
 use Rattle.lines.specs.Lines.{Line, lines_of}
 use Rattle.lines.specs.Records.{Record, records_of}
 use Rattle.lines.proofs.OneRecord.{join_lines, join_lines_lem}
+use Rattle.attribution.specs.Governing.{governed}
 use Rattle.attribution.specs.Reckoning.{Totals, row_of, rows_to, process_count, reckoning}
 use Rattle.report.specs.Report.{ReportRow, Report, report_row, report_of}
 use Rattle.report.specs.Spelling.{ReportLine, spell_lines, row_line, total_line, report_bytes}
@@ -128,12 +129,12 @@ module _ (records : List Record) where
 
 -- bytes are read as the values of a sheet's report exactly when they are its bytes
 pub sheet_report_read : (sheet bytes : List ℕ)
-    → (read_report bytes ≡ Some (report_of (reckoning (records_of sheet)))) ↔ (bytes ≡ sheet_report sheet)
+    → (read_report bytes ≡ Some (report_of (reckoning (governed (records_of sheet))))) ↔ (bytes ≡ sheet_report sheet)
 unfolding sheet_report
 sheet_report_read sheet bytes =
-    let r : Report = report_of (reckoning (records_of sheet)) in
+    let r : Report = report_of (reckoning (governed (records_of sheet))) in
     let h = read_iff_spelt bytes r in
-    ((λ e. (h.0 e).0), (λ e. h.1 (e, reckoning_numbered (records_of sheet))))
+    ((λ e. (h.0 e).0), (λ e. h.1 (e, reckoning_numbered (governed (records_of sheet)))))
 
 -- numbered reports of the same bytes have the same values
 pub one_report : (a b : Report) → Numbered a → Numbered b → report_bytes a ≡ report_bytes b → a ≡ b

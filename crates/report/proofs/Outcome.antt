@@ -14,6 +14,7 @@ use Rattle.sheet.specs.Verdict.{check, Verdict, accepted, refused, sheet_checks}
 use Rattle.sheet.specs.Verdict.{All, Passes, First}
 use Rattle.sheet.proofs.First.{all_append, accepted_iff, refused_iff, decided}
 use Rattle.attribution.specs.Exact.{NothingAdded}
+use Rattle.attribution.specs.Governing.{governed}
 use Rattle.attribution.specs.Reckoning.{reckoning, totals_of}
 use Rattle.attribution.specs.Verdict.{figure_too_large, reckoner_checks}
 use Rattle.attribution.proofs.Sheet.{third_property, third_property_exact, third_property_greater}
@@ -62,7 +63,7 @@ module _ (limits : Limits) (sheet space : List ℕ) where
     unfolding all_checks reckoner_checks
     lines_passed =
         let all_but_16 = (all_append Passes (reckoner_checks limits sheet) (check 16 0 (space_too_short sheet space) ∷ []) (verdict_accepted.0 a)).0 in
-        (all_append Passes (sheet_checks limits sheet) (check 15 0 (figure_too_large (reckoning (records_of sheet))) ∷ []) all_but_16).0
+        (all_append Passes (sheet_checks limits sheet) (check 15 0 (figure_too_large (reckoning (governed (records_of sheet)))) ∷ []) all_but_16).0
 
     -- THE THIRD PROPERTY, of the report's totals
     pub report_sum : pos (totals_of sheet).left ≡ (totals_of sheet).entered +ℤ pos (totals_of sheet).raised +ℤ pos (totals_of sheet).uncredited

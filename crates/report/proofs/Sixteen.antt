@@ -13,11 +13,11 @@ use Rattle.sheet.proofs.Numbers.{sheet_another}
 use Rattle.attribution.specs.Verdict.{reckoner_checks}
 use Rattle.report.specs.Outcome.{sheet_report, space_too_short, all_checks, verdict, outcome_of, outcome}
 
--- no row 1 to 15 has the number 16
+-- no row before it has the number 16
 pub rows_another : (limits : Limits) (sheet : List ℕ) → All (λ c. c.number ≡ 16 → ⊥) (reckoner_checks limits sheet)
 unfolding reckoner_checks
 rows_another limits sheet =
-    all_join (λ c. c.number ≡ 16 → ⊥) (sheet_checks limits sheet) _ (sheet_another 16 (omega arith) limits sheet) (λ e. omega arith, tt)
+    all_join (λ c. c.number ≡ 16 → ⊥) (sheet_checks limits sheet) _ (sheet_another 16 (omega arith, omega arith) limits sheet) (λ e. omega arith, tt)
 
 -- a last row 16 gives its number only where it applies and no row before it does
 last_only : (cs : List Check) (t : Bool) → All (λ c. c.number ≡ 16 → ⊥) cs → number_of (first_of (cs ++ (check 16 0 t ∷ []))) ≡ 16
@@ -36,7 +36,7 @@ given_number : (v : Verdict) (report space : List ℕ) → (outcome_of v report 
 given_number accepted report space = refl
 given_number (refused number line) report space = refl
 
--- 16 is given only where no row 1 to 15 applies and the space is shorter than the report
+-- 16 is given only where no other row applies and the space is shorter than the report
 pub short_only : (limits : Limits) (sheet space : List ℕ) → (outcome limits sheet space).number ≡ 16
     → (length space < length (sheet_report sheet)) × All Passes (reckoner_checks limits sheet)
 unfolding outcome verdict all_checks

@@ -27,6 +27,12 @@ printed =
     ∷ prints "P,1,0\n" "7,1\n"
     ∷ prints "" "14,0\n"
     ∷ prints "P,1,5\nW,1,2,9\n" "9,2\n"
+    -- K and N lines: a second line of one rank, no figures, also above a line that is refused by another row, N without its P, K above P
+    ∷ prints "P,1,5\nK,1,1,0,0\nK,1,2,0,0\nK,1,1,0,0\n" "17,4\n"
+    ∷ prints "P,1,5\nK,1,1,0,0\nN,1,1,5\nN,1,2,5\nN,1,3,5\n" "18,4\n"
+    ∷ prints "P,1,5\nN,1,2,5\nG,1,1,5\n" "10,3\n"
+    ∷ prints "N,1,1,5\n" "9,1\n"
+    ∷ prints "K,1,1,0,0\nP,1,5\n" "8,2\n"
     ∷ []
 
 -- ---- the outcome with a report space
@@ -52,6 +58,7 @@ given =
     -- a refused sheet leaves every byte, and its own number comes before 16
     ∷ gives "P,1,0\n" "......................................................" 7 1 0 "......................................................"
     ∷ gives "P,1,0\n" ".." 7 1 0 ".."
+    ∷ gives "P,1,1\nN,1,1,1\n" ".." 18 2 0 ".."
     ∷ gives "" "" 14 0 0 ""
     ∷ []
 

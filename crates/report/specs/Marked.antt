@@ -1,4 +1,4 @@
--- Examples. Document 01, "What the contracts say", d: the marked cases, one table, and those of ticket 2 of document 02.
+-- Examples. Document 01, "What the contracts say", d: the marked cases, one table, and those of tickets 2 and 4 of document 02.
 use Rattle.std.specs.Prelude.{List, [], ◌∷◌, ℕ}
 use Prim.Native.String.{String}
 use Rattle.decimal.specs.Text.{bytes}
@@ -56,4 +56,10 @@ marked =
     ∷ prints
     "P,1,1000\nP,2,1000\nP,3,1000\nP,4,1000\nP,5,1000\nS,1,4,0,1000,850000,0,10000,0\nS,2,4,0,1000,850000,0,10000,1\nS,3,4,0,1000,850000,0,10000,5000\nS,4,4,0,1000,850000,0,10000,9999\nS,5,4,0,1000,850000,0,10000,10000\n"
     "R,1,0,0,3114400,0,0,0,0,0.000,0.000\nR,2,0,0,3114089,0,0,0,0,0.000,0.000\nR,3,0,0,1557200,0,0,0,0,0.000,0.000\nR,4,0,0,311,0,0,0,0,0.000,0.000\nR,5,0,0,0,0,0,0,0,0.000,0.000\nT,0,-7786000,7786000,0\n"
+    -- ticket 4: the sheet of "The report" with an N line in its B line's place, and its figures as rank 2, over rank 3
+    ∷ prints
+    "P,1,1000\nP,2,400\nK,17,3,5000000,900000\nS,1,1,16,1000,-,-,10000,0\nH,1,2,10000,56100\nE,0,2,500,400000\nN,2,17,100\nG,1,2,300\nK,17,2,1900000,250000\n"
+    "R,1,2131800,0,0,2131800,0,1492260,0,2131.800,0.000\nR,2,561000,200000,0,1390540,225000,1390540,225000,3476.350,562.500\nT,3107800,3107800,0,0\n"
+    -- a sheet of K lines alone
+    ∷ prints "K,17,3,5000000,900000\nK,17,2,1900000,250000\n" "T,0,0,0,0\n"
     ∷ []

@@ -5,14 +5,15 @@ use Rattle.decimal.specs.Spelling.{spelling}
 use Rattle.quantity.specs.Limits.{Limits}
 use Rattle.lines.specs.Records.{records_of}
 use Rattle.sheet.specs.Verdict.{Check, check, Verdict, accepted, refused, first_of}
+use Rattle.attribution.specs.Governing.{governed}
 use Rattle.attribution.specs.Reckoning.{reckoning}
 use Rattle.attribution.specs.Verdict.{reckoner_checks}
 use Rattle.report.specs.Report.{report_of}
 use Rattle.report.specs.Spelling.{report_bytes}
 
--- the report of a sheet
+-- the report of a sheet: the reckoning of its records with the governing figures
 unfoldable pub sheet_report : (sheet : List ℕ) → List ℕ
-sheet_report sheet = report_bytes (report_of (reckoning (records_of sheet)))
+sheet_report sheet = report_bytes (report_of (reckoning (governed (records_of sheet))))
 
 -- no report has more bytes. A number below 2^63 has at most 19 digits, so behind its comma a whole figure has at most 20 bytes, a specific
 -- figure 24 and `entered` 21: with letter and LF a process's line has 2 + 8 * 20 + 2 * 24, the last line 2 + 3 * 20 + 21
@@ -23,7 +24,7 @@ longest limits = 210 * limits.processes + 83
 abbrev pub space_too_short : (sheet space : List ℕ) → Bool
 space_too_short sheet space = ltb (length space) (length (sheet_report sheet))
 
--- every row of the table in the order of judging: 1 to 15, then 16
+-- every row of the table in the order of judging, 16 last
 unfoldable pub all_checks : Limits → (sheet space : List ℕ) → List Check
 all_checks limits sheet space = reckoner_checks limits sheet ++ (check 16 0 (space_too_short sheet space) ∷ [])
 

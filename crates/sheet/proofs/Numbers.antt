@@ -1,4 +1,4 @@
--- Rows 1 to 14 have no number above 14. Assumes nothing.
+-- Rows 1 to 14, 17 and 18 have neither the number 15 nor 16. Assumes nothing.
 use mathlib.Core.Path.{◌≡◌}
 use mathlib.Core.List.{List, [], ◌∷◌}
 use Prim.Native.Nat.{ℕ, suc, ◌<◌}
@@ -6,12 +6,12 @@ use native.Mathlib.Omega.{arith}
 use lib.ListN.{length}
 use Rattle.quantity.specs.Limits.{Limits}
 use Rattle.lines.specs.Lines.{Line, lines_of}
-use Rattle.lines.specs.Records.{Field, Record, record_of}
+use Rattle.lines.specs.Records.{Field, Record, record_of, records_of}
 use Rattle.sheet.specs.Kinds.{Rule, rules_of, sheet_table}
-use Rattle.sheet.specs.Verdict.{Check, field_checks, shape_checks, line_checks, lines_checks, sheet_checks, All}
+use Rattle.sheet.specs.Verdict.{Check, field_checks, shape_checks, figures_checks, line_checks, lines_checks, sheet_checks, All}
 use Rattle.sheet.proofs.First.{all_join}
 
-module _ (k : ℕ) (beyond : 14 < k) where
+module _ (k : ℕ) (over : 14 < k) (under : k < 17) where
   abbrev Another : Check → Type 0
   Another c = c.number ≡ k → ⊥
 
@@ -29,7 +29,7 @@ module _ (k : ℕ) (beyond : 14 < k) where
           λ e. omega arith,
           all_join Another (shape_checks (sheet_table limits) line l) _
               (λ e. omega arith, (λ e. omega arith, (λ e. omega arith, fields_another line (rules_of limits (record_of l)) (record_of l).said)))
-              (λ e. omega arith, (λ e. omega arith, (λ e. omega arith, (λ e. omega arith, (λ e. omega arith, (λ e. omega arith, tt)))))),
+              (λ e. omega arith, (λ e. omega arith, (λ e. omega arith, (λ e. omega arith, (λ e. omega arith, (λ e. omega arith, (λ e. omega arith, tt))))))),
         )
 
     lines_another : (above : List Record) (ls : List Line) → All Another (lines_checks limits above ls)
@@ -39,7 +39,22 @@ module _ (k : ℕ) (beyond : 14 < k) where
         all_join Another (line_checks limits above l) (lines_checks limits (record_of l ∷ above) ls)
         (line_another above l) (lines_another (record_of l ∷ above) ls)
 
-    -- NO ROW 1 TO 14 HAS THE NUMBER k
-    pub sheet_another : (sheet : List ℕ) → All (λ c. c.number ≡ k → ⊥) (sheet_checks limits sheet)
+    figures_another : (records : List Record) (line : ℕ) (rs : List Record) → All Another (figures_checks records line rs)
+    unfolding figures_checks
+    figures_another records line [] = tt
+    figures_another records line (r ∷ rs) = (λ e. omega arith, figures_another records (suc line) rs)
+
+    sheet_all : (sheet : List ℕ) → All Another (sheet_checks limits sheet)
     unfolding sheet_checks
-    sheet_another sheet = (λ e. omega arith, (λ e. omega arith, lines_another [] (lines_of sheet)))
+    sheet_all sheet = (
+      λ e. omega arith,
+      (
+        λ e. omega arith,
+        all_join Another (lines_checks limits [] (lines_of sheet)) (figures_checks (records_of sheet) 1 (records_of sheet))
+            (lines_another [] (lines_of sheet)) (figures_another (records_of sheet) 1 (records_of sheet)),
+      ),
+    )
+
+-- NO ROW 1 TO 14, 17 OR 18 HAS THE NUMBER k, 15 or 16
+pub sheet_another : (k : ℕ) → (14 < k) × (k < 17) → (limits : Limits) (sheet : List ℕ) → All (λ c. c.number ≡ k → ⊥) (sheet_checks limits sheet)
+sheet_another k kept limits sheet = sheet_all k kept.0 kept.1 limits sheet

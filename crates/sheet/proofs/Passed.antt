@@ -10,11 +10,11 @@ use lib.ListN.{length, get_or}
 use Rattle.decimal.proofs.Bools.{never, or_neither}
 use Rattle.quantity.specs.Limits.{Limits}
 use Rattle.lines.specs.Lines.{Line, lines_of}
-use Rattle.lines.specs.Records.{Field, number, dash, other, Record, record_of, number_in, number_at}
+use Rattle.lines.specs.Records.{Field, number, dash, other, Record, record_of, records_of, number_in, number_at}
 use Rattle.sheet.specs.Kinds.{Rule, ◌to◌, rules_of, sheet_table}
 use Rattle.sheet.specs.Refusals.{too_many_lines, not_number, out_of_range, process_not_next, missing_process}
-use Rattle.sheet.specs.Refusals.{ends_not_allowed, no_standard_value, second_of_pair, output_exceeded}
-use Rattle.sheet.specs.Verdict.{field_checks, shape_checks, line_checks, lines_checks, sheet_checks, All, Passes}
+use Rattle.sheet.specs.Refusals.{ends_not_allowed, no_standard_value, second_of_pair, output_exceeded, second_of_rank}
+use Rattle.sheet.specs.Verdict.{field_checks, shape_checks, line_checks, lines_checks, figures_checks, sheet_checks, All, Passes}
 use Rattle.sheet.specs.Ranges.{KeepsRules, KeepsRanges}
 use Rattle.sheet.proofs.First.{all_append}
 
@@ -66,6 +66,7 @@ module _ (limits : Limits) where
     pub standard : no_standard_value (record_of l) ≡ false
     pub once : second_of_pair above (record_of l) ≡ false
     pub within : output_exceeded above (record_of l) ≡ false
+    pub rank_once : second_of_rank above (record_of l) ≡ false
 
   pub line_passed : (above : List Record) (l : Line) → All Passes (line_checks limits above l) → PassedLine above l
   unfolding line_checks shape_checks
@@ -85,6 +86,7 @@ module _ (limits : Limits) where
         standard = order.1.1.1.0;
         once = order.1.1.1.1.0;
         within = order.1.1.1.1.1.0;
+        rank_once = order.1.1.1.1.1.1.0;
       }
 
   -- no row applies by any line, below the records above it
@@ -92,26 +94,30 @@ module _ (limits : Limits) where
   PassedLines above [] = Unit {0}
   PassedLines above (l ∷ ls) = PassedLine above l × PassedLines (record_of l ∷ above) ls
 
-  lines_passed : (above : List Record) (ls : List Line) → All Passes (lines_checks limits above ls) → PassedLines above ls
+  pub lines_passed : (above : List Record) (ls : List Line) → All Passes (lines_checks limits above ls) → PassedLines above ls
   unfolding lines_checks
   lines_passed above [] h = tt
   lines_passed above (l ∷ ls) h =
       let both = all_append Passes (line_checks limits above l) (lines_checks limits (record_of l ∷ above) ls) h in
       (line_passed above l both.0, lines_passed (record_of l ∷ above) ls both.1)
 
-  -- a sheet by which no row 1 to 14 applies
+  -- a sheet by which no row 1 to 14, 17 or 18 applies
   pub record PassedSheet (sheet : List ℕ) : Type 0 where
     pub short : length sheet ≤ limits.bytes
     pub some : length sheet ≡ 0 → ⊥
     pub lines : PassedLines [] (lines_of sheet)
+    pub figures : All Passes (figures_checks (records_of sheet) 1 (records_of sheet))
 
   pub sheet_passed : (sheet : List ℕ) → All Passes (sheet_checks limits sheet) → PassedSheet sheet
   unfolding sheet_checks
-  sheet_passed sheet h = record {
-    short = ltb-false limits.bytes (length sheet) h.0;
-    some = eqb-false (length sheet) 0 h.1.0;
-    lines = lines_passed [] (lines_of sheet) h.1.1;
-  }
+  sheet_passed sheet h =
+      let parts = all_append Passes (lines_checks limits [] (lines_of sheet)) (figures_checks (records_of sheet) 1 (records_of sheet)) h.1.1 in
+      record {
+        short = ltb-false limits.bytes (length sheet) h.0;
+        some = eqb-false (length sheet) 0 h.1.0;
+        lines = lines_passed [] (lines_of sheet) parts.0;
+        figures = parts.1;
+      }
 
   -- ---- a record that keeps its ranges: by a rule without `-` its number is in the range
   pub in_range : (r : Record) → KeepsRanges limits r → (i : ℕ) → i < length (rules_of limits r) → (get_or (rules_of limits r) i no_rule).dash_allowed ≡ false

@@ -15,7 +15,7 @@ use Rattle.quantity.specs.Limits.{Limits}
 use Rattle.sheet.specs.declared.Kind.{Kind}
 use Rattle.sheet.specs.declared.Kind.TheVariants.{Process, SourceStream, MeasurableHeat, WasteGas, Electricity, BoughtPrecursor}
 use Rattle.sheet.specs.Kinds.{letter, kinds, kind_among, kind_of, kind, is, Rule, exactly}
-use Rattle.sheet.specs.declared.Kind.TheVariants.{OwnGood, Unknown}
+use Rattle.sheet.specs.declared.Kind.TheVariants.{OwnGood, PrecursorFigures, PrecursorUse, Unknown}
 use Rattle.sheet.specs.Kinds.{combustion, process_emission, mass_balance, no_method, method_rules, rules}
 use Rattle.sheet.specs.Verdict.{All}
 
@@ -30,6 +30,8 @@ kind_letter WasteGas = refl
 kind_letter Electricity = refl
 kind_letter BoughtPrecursor = refl
 kind_letter OwnGood = refl
+kind_letter PrecursorFigures = refl
+kind_letter PrecursorUse = refl
 kind_letter Unknown = refl
 
 -- kinds of one letter are the same

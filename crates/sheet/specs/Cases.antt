@@ -1,5 +1,5 @@
--- Examples. Sheets and their verdicts: the examples of document 01's table of refusals, worked examples of the order of judging, and both sides of
--- each limit.
+-- Examples. Sheets and their verdicts: the examples of document 01's table of refusals, worked examples of the order of judging, both sides of
+-- each limit, and the same of the rows and kinds of document 02, ticket 4.
 use Rattle.std.specs.Prelude.{List, [], ◌∷◌}
 use Prim.Native.String.{String}
 use Rattle.decimal.specs.Text.{bytes}
@@ -147,6 +147,49 @@ examples =
     ∷ gives "P,1,10000000000\nP,2,1\nG,1,2,10000000001\n" (refused 7 3)
     -- a number of many digits is out of range, and is a number
     ∷ gives "P,1,100000000000000000000000000000000000000000\n" (refused 7 1)
+    -- document 02, ticket 4: 17 and 18
+    ∷ gives "K,1,1,5,5\nK,1,1,6,6\n" (refused 17 2)
+    ∷ gives "P,1,5\nN,1,1,9\n" (refused 18 2)
+    -- accepted: K lines alone, another rank of the same precursor, another precursor of the same rank, and a K line below the use
+    ∷ gives "K,1,1,5,5\n" accepted
+    ∷ gives "K,1,3,5,5\nK,1,1,6,6\nK,1,2,7,7\nK,2,1,5,5\n" accepted
+    ∷ gives "P,1,5\nN,1,1,9\nK,1,3,5,5\n" accepted
+    -- a K line above the P lines makes the next P line 8; an N line without its P line is 9
+    ∷ gives "K,1,1,5,5\nP,1,5\n" (refused 8 2)
+    ∷ gives "P,1,5\nN,2,1,9\n" (refused 9 2)
+    ∷ gives "P,1,5\nN,2,1,x\n" (refused 6 2)
+    ∷ gives "P,1,5\nN,2,1,0\n" (refused 7 2)
+    -- 6 and 7 before 17, and an upper 13 before it
+    ∷ gives "K,1,1,5,5\nK,1,1,x,6\n" (refused 6 2)
+    ∷ gives "K,1,1,5,5\nK,1,1,6,100000001\n" (refused 7 2)
+    ∷ gives "P,1,5\nP,2,5\nK,1,1,5,5\nG,1,2,6\nK,1,1,6,6\n" (refused 13 4)
+    -- 17 before a lower line's refusal, though that has the lower number
+    ∷ gives "K,1,1,5,5\nK,1,1,6,6\nX\n" (refused 17 2)
+    -- 18 once all lines have passed: after every refusal of a line, 17 too
+    ∷ gives "P,1,5\nN,1,1,9\nX\n" (refused 4 3)
+    ∷ gives "P,1,5\nN,1,1,9\nK,2,1,5,5\nK,2,1,6,6\n" (refused 17 4)
+    ∷ gives "P,1,5\nN,1,1,9\nK,1,1,5,5" (refused 3 3)
+    -- 18 at the first such line, where the N line above it has its K line below, and K lines of other precursors stand everywhere
+    ∷ gives "P,1,5\nK,3,1,5,5\nN,1,1,9\nN,1,2,9\nN,1,4,9\nK,1,3,5,5\n" (refused 18 4)
+    -- K and N at their highest, and one above or below
+    ∷ gives "P,1,5\nK,255,3,100000000,100000000\nK,1,1,0,0\nN,1,255,10000000000\nN,1,1,1\n" accepted
+    ∷ gives "K,256,1,1,1\n" (refused 7 1)
+    ∷ gives "K,0,1,1,1\n" (refused 7 1)
+    ∷ gives "K,1,4,1,1\n" (refused 7 1)
+    ∷ gives "K,1,0,1,1\n" (refused 7 1)
+    ∷ gives "K,1,1,100000001,1\n" (refused 7 1)
+    ∷ gives "K,1,1,1,100000001\n" (refused 7 1)
+    ∷ gives "P,1,5\nN,0,1,1\n" (refused 7 2)
+    ∷ gives "P,1,5\nN,17,1,1\n" (refused 7 2)
+    ∷ gives "P,1,5\nN,1,0,1\n" (refused 7 2)
+    ∷ gives "P,1,5\nN,1,256,1\n" (refused 7 2)
+    ∷ gives "P,1,5\nN,1,1,0\n" (refused 7 2)
+    ∷ gives "P,1,5\nN,1,1,10000000001\n" (refused 7 2)
+    -- no `-` in either, and their counts of fields
+    ∷ gives "K,1,1,-,1\n" (refused 6 1)
+    ∷ gives "P,1,5\nN,1,1,-\n" (refused 6 2)
+    ∷ gives "K,1,1,1\n" (refused 5 1)
+    ∷ gives "P,1,5\nN,1,1,1,1\n" (refused 5 2)
     ∷ []
 
 -- what the definitions say of a sheet

@@ -1,11 +1,12 @@
--- For the reader. Document 01, "The sheet" and "Source streams": the kinds of lines as a table. A kind has its letter, its fields, which of
--- them name processes, and the ends that it does not allow.
+-- For the reader. Document 01, "The sheet" and "Source streams", and document 02, ticket 4: the kinds of lines as a table. A kind has its
+-- letter, its fields, which of them name processes, and the ends that it does not allow.
 use Rattle.std.specs.Prelude.{Bool, true, false, cond, ◌&&◌, not, List, [], ◌∷◌, ℕ, eqb, ltb, leb}
 use Rattle.quantity.specs.Limits.{Limits}
 use Rattle.lines.specs.Records.{Field, number, dash, other, Record, field}
--- the seven kinds of lines, and a line whose first field is none of their letters
+-- the nine kinds of lines, and a line whose first field is none of their letters
 use Rattle.sheet.specs.declared.Kind.{Kind}
-use Rattle.sheet.specs.declared.Kind.TheVariants.{Process, SourceStream, MeasurableHeat, WasteGas, Electricity, BoughtPrecursor, OwnGood, Unknown}
+use Rattle.sheet.specs.declared.Kind.TheVariants.{Process, SourceStream, MeasurableHeat, WasteGas, Electricity, BoughtPrecursor, OwnGood}
+use Rattle.sheet.specs.declared.Kind.TheVariants.{PrecursorFigures, PrecursorUse, Unknown}
 
 -- ---- kinds and their letters
 
@@ -17,10 +18,14 @@ letter WasteGas = 87
 letter Electricity = 69
 letter BoughtPrecursor = 66
 letter OwnGood = 71
+letter PrecursorFigures = 75
+letter PrecursorUse = 78
 letter Unknown = 0
 
 abbrev pub kinds : List Kind
-kinds = Process ∷ SourceStream ∷ MeasurableHeat ∷ WasteGas ∷ Electricity ∷ BoughtPrecursor ∷ OwnGood ∷ []
+kinds =
+    Process ∷ SourceStream ∷ MeasurableHeat ∷ WasteGas ∷ Electricity ∷ BoughtPrecursor ∷ OwnGood
+    ∷ PrecursorFigures ∷ PrecursorUse ∷ []
 
 -- the kind whose letter is this byte
 unfoldable pub kind_among : List Kind → (byte : ℕ) → Kind
@@ -56,7 +61,7 @@ or_dash r = record { lowest = r.lowest; highest = r.highest; dash_allowed = true
 abbrev pub exactly : ℕ → Rule
 exactly n = n to n
 
--- kilograms, of P, S, B and G
+-- kilograms, of P, S, B, G and N
 abbrev pub kilos : Rule
 kilos = 1 to 10000000000
 
@@ -64,9 +69,13 @@ kilos = 1 to 10000000000
 abbrev megajoules : Rule
 megajoules = 1 to 1000000000000
 
--- a specific figure of B, mg per kg
-abbrev specific_figure : Rule
+-- a specific figure of B and K, mg per kg
+abbrev pub specific_figure : Rule
 specific_figure = 0 to 100000000
+
+-- the number of a precursor, of K and N
+abbrev pub precursor_number : Rule
+precursor_number = 1 to 255
 
 -- c and d of S, ten-thousandths
 abbrev pub share : Rule
@@ -99,7 +108,7 @@ method_rules other = no_method
 -- ---- the table: the fields of each kind
 
 module _ (limits : Limits) where
-  -- n of P, S and B
+  -- n of P, S and B, and `process` of N
   abbrev pub process_number : Rule
   process_number = 1 to limits.processes
 
@@ -123,6 +132,10 @@ module _ (limits : Limits) where
   rules BoughtPrecursor by_method = process_number ∷ kilos ∷ specific_figure ∷ specific_figure ∷ []
   -- `G,from,to,kg`
   rules OwnGood by_method = end_number ∷ end_number ∷ kilos ∷ []
+  -- `K,precursor,rank,direct,indirect`: rank 1, verified, 2, supplier's, or 3, default
+  rules PrecursorFigures by_method = precursor_number ∷ (1 to 3) ∷ specific_figure ∷ specific_figure ∷ []
+  -- `N,process,precursor,kg`
+  rules PrecursorUse by_method = process_number ∷ precursor_number ∷ kilos ∷ []
   rules Unknown by_method = []
 
   -- the rules of a record's fields; the method of a source stream is its second
@@ -138,6 +151,8 @@ named_fields WasteGas = 2
 named_fields Electricity = 2
 named_fields BoughtPrecursor = 1
 named_fields OwnGood = 2
+named_fields PrecursorFigures = 0
+named_fields PrecursorUse = 1
 named_fields Unknown = 0
 
 -- the ends that are not allowed. H and W need two different ends; E needs not both 0; G needs 1 ≤ from < to
@@ -149,6 +164,8 @@ ends_of WasteGas f t = eqb f t
 ends_of Electricity f t = eqb f 0 && eqb t 0
 ends_of BoughtPrecursor f t = false
 ends_of OwnGood f t = not (leb 1 f && ltb f t)
+ends_of PrecursorFigures f t = false
+ends_of PrecursorUse f t = false
 ends_of Unknown f t = false
 
 -- ---- lines under any table

@@ -1,11 +1,11 @@
--- For the reader. Document 01, "Sheets sent back": each row of its table, in order, as a test. `above` holds the records of the lines above,
--- the nearest first.
+-- For the reader. Document 01, "Sheets sent back": each row of its table, in order, as a test, and then the rows of document 02, ticket 4.
+-- `above` holds the records of the lines above, the nearest first.
 use Rattle.std.specs.Prelude.{Bool, true, false, cond, ◌&&◌, ◌||◌, not, List, [], ◌∷◌, ℕ, suc, ◌+◌, eqb, ltb, length}
 use Rattle.quantity.specs.Limits.{Limits}
 use Rattle.lines.specs.Lines.{Line}
 use Rattle.lines.specs.Records.{Field, number, dash, other, Record, field, number_at}
 use Rattle.sheet.specs.Kinds.{kind, is, Rule, Table, named_fields, ends_of}
-use Rattle.sheet.specs.declared.Kind.TheVariants.{Process, SourceStream, OwnGood}
+use Rattle.sheet.specs.declared.Kind.TheVariants.{Process, SourceStream, OwnGood, PrecursorFigures, PrecursorUse}
 
 -- ---- what the lines above say
 
@@ -17,7 +17,7 @@ unfoldable pub sum_of : (Record → ℕ) → List Record → ℕ
 sum_of figure [] = 0
 sum_of figure (r ∷ rs) = figure r + sum_of figure rs
 
--- n of P, S and B; from and to of H, W, E and G
+-- n of P, S and B, and `process` of N; from and to of H, W, E and G
 abbrev pub process : Record → ℕ
 process r = number_at r 0
 
@@ -26,6 +26,16 @@ from r = number_at r 0
 
 abbrev pub to : Record → ℕ
 to r = number_at r 1
+
+-- precursor and rank of K; precursor of N
+abbrev pub stated_precursor : Record → ℕ
+stated_precursor r = number_at r 0
+
+abbrev pub rank : Record → ℕ
+rank r = number_at r 1
+
+abbrev pub used_precursor : Record → ℕ
+used_precursor r = number_at r 1
 
 -- kilograms of output that a line states for process n
 abbrev pub output_in : (n : ℕ) → Record → ℕ
@@ -106,3 +116,14 @@ output_exceeded above r =
 -- 14: empty sheet
 abbrev pub empty_sheet : (sheet : List ℕ) → Bool
 empty_sheet sheet = eqb (length sheet) 0
+
+-- 17: second K line of a precursor and rank
+abbrev pub second_of_rank : (above : List Record) → Record → Bool
+second_of_rank above r =
+    is PrecursorFigures r
+    && any_of (λ q. is PrecursorFigures q && (eqb (stated_precursor q) (stated_precursor r) && eqb (rank q) (rank r))) above
+
+-- 18: N line whose precursor has no K line; `records` are those of all lines of the sheet
+abbrev pub no_figures : (records : List Record) → Record → Bool
+no_figures records r =
+    is PrecursorUse r && not (any_of (λ q. is PrecursorFigures q && eqb (stated_precursor q) (used_precursor r)) records)

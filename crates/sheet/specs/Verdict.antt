@@ -1,13 +1,13 @@
--- For the reader. Document 01, "Sheets sent back": the order of judging, and the verdict. Rows 15 and 16 come after all lines and are added where the
--- report's figures and its space are known.
+-- For the reader. Document 01, "Sheets sent back", and document 02, ticket 4: the order of judging, and the verdict. Rows 15 and 16 come after all
+-- others and are added where the report's figures and its space are known.
 use Rattle.std.specs.Prelude.{Bool, true, false, cond, ◌≡◌, List, [], ◌∷◌, ◌++◌, ℕ, suc, length}
 use Rattle.quantity.specs.Limits.{Limits}
 use Rattle.lines.specs.Lines.{Line, lines_of}
-use Rattle.lines.specs.Records.{Field, Record, record_of}
+use Rattle.lines.specs.Records.{Field, Record, record_of, records_of}
 use Rattle.sheet.specs.Kinds.{Rule, Table, sheet_table}
 use Rattle.sheet.specs.Refusals.{too_many_bytes, too_many_lines, lacks_lf, unknown_kind, wrong_field_count}
 use Rattle.sheet.specs.Refusals.{not_number, out_of_range, process_not_next, missing_process, ends_not_allowed}
-use Rattle.sheet.specs.Refusals.{no_standard_value, second_of_pair, output_exceeded, empty_sheet}
+use Rattle.sheet.specs.Refusals.{no_standard_value, second_of_pair, output_exceeded, empty_sheet, second_of_rank, no_figures}
 
 -- a row of the table tried at a line: its number, the line, and whether it applies there
 pub record Check : Type 0 where
@@ -72,7 +72,7 @@ shape_checks table k l =
     ∷ check 5 k (wrong_field_count table r)
     ∷ field_checks k (table.rules r) r.said
 
--- 8 to 13 of line k
+-- 8 to 13 and 17 of line k
 abbrev pub order_checks : (k : ℕ) → (above : List Record) → Record → List Check
 order_checks k above r =
     check 8 k (process_not_next above r)
@@ -81,7 +81,13 @@ order_checks k above r =
     ∷ check 11 k (no_standard_value r)
     ∷ check 12 k (second_of_pair above r)
     ∷ check 13 k (output_exceeded above r)
+    ∷ check 17 k (second_of_rank above r)
     ∷ []
+
+-- 18 of the lines from line k on; `records` are those of all lines of the sheet
+unfoldable pub figures_checks : (records : List Record) → (k : ℕ) → List Record → List Check
+figures_checks records k [] = []
+figures_checks records k (r ∷ rs) = check 18 k (no_figures records r) ∷ figures_checks records (suc k) rs
 
 module _ (limits : Limits) where
   -- within a line the lower number is given, except that 6 and 7 go field by field
@@ -95,6 +101,9 @@ module _ (limits : Limits) where
   lines_checks above [] = []
   lines_checks above (l ∷ ls) = line_checks above l ++ lines_checks (record_of l ∷ above) ls
 
-  -- 1 and 14 come before any line
+  -- 1 and 14 come before any line, 18 once all lines have passed, again from the top
   unfoldable pub sheet_checks : (sheet : List ℕ) → List Check
-  sheet_checks sheet = check 1 0 (too_many_bytes limits sheet) ∷ check 14 0 (empty_sheet sheet) ∷ lines_checks [] (lines_of sheet)
+  sheet_checks sheet =
+      check 1 0 (too_many_bytes limits sheet)
+      ∷ check 14 0 (empty_sheet sheet)
+      ∷ (lines_checks [] (lines_of sheet) ++ figures_checks (records_of sheet) 1 (records_of sheet))

@@ -1,10 +1,10 @@
-// Document 01, "The sheet" and "Sheets sent back". The definitions are in specs/.
+// Document 01, "The sheet" and "Sheets sent back", and document 02, ticket 4. The definitions are in specs/.
 #![tactic(auto, unfolding(crate::specs::Kinds::kind_of, crate::specs::Kinds::kind_among))]
 
 ghost use Rattle.std.specs.Prelude.{◌≡◌};
 ghost use Rattle.sheet.specs.Kinds.{kind_of};
 
-// The seven kinds of lines, and a line whose first field is none of their letters: in the definitions too that is a kind, so no Option holds one.
+// The nine kinds of lines, and a line whose first field is none of their letters: in the definitions too that is a kind, so no Option holds one.
 #[derive(Clone, Copy, Debug, PartialEq, Eq)]
 pub enum Kind {
     Process,
@@ -14,6 +14,8 @@ pub enum Kind {
     Electricity,
     BoughtPrecursor,
     OwnGood,
+    PrecursorFigures,
+    PrecursorUse,
     Unknown,
 }
 
@@ -30,6 +32,8 @@ impl From<u8> for Kind {
             b'E' => Kind::Electricity,
             b'B' => Kind::BoughtPrecursor,
             b'G' => Kind::OwnGood,
+            b'K' => Kind::PrecursorFigures,
+            b'N' => Kind::PrecursorUse,
             _ => Kind::Unknown,
         }
     }

@@ -1,4 +1,4 @@
--- What the reader gives, by the verdict of rows 1 to 14. Assumes nothing.
+-- What the reader gives, by the verdict of rows 1 to 14, 17 and 18. Assumes nothing.
 use mathlib.Core.Path.{◌≡◌, refl}
 use mathlib.Core.Bool.{cond}
 use mathlib.Core.List.{List, ◌++◌}

@@ -7,7 +7,7 @@ use native.Mathlib.Omega.{arith}
 use lib.Dec.{eqb}
 use lib.ListN.{get_or}
 use Rattle.sheet.specs.Kinds.{letter, rules}
-use Rattle.sheet.specs.declared.Kind.TheVariants.{Process, OwnGood}
+use Rattle.sheet.specs.declared.Kind.TheVariants.{Process, OwnGood, PrecursorFigures, PrecursorUse}
 use Rattle.lines.specs.declared.LineRead.{LineRead}
 use Rattle.goods.specs.Settling.{SIZE}
 use Rattle.quantity.specs.Limits.{limits}
@@ -15,7 +15,9 @@ use Rattle.entries.specs.Read.{record_read, LineKeeps}
 use Rattle.entries.proofs.Ranges.{in_rules, are_words}
 use Rattle.entries.proofs.OfKind.{kind_at}
 use Rattle.works.specs.declared.Noted.{Noted}
+use Rattle.works.specs.declared.Stated.{Stated}
 use Rattle.works.specs.Works.{noted_of, output_noted, taken_noted, pair_noted, count_after, outputs_after, taken_after, kilos_after, noted_after}
+use Rattle.works.specs.Works.{PRECURSORS, figures_noted, use_noted, stated_after}
 use Rattle.sheet.specs.Most.{KILOS}
 
 module _ (n : Noted) (kilos : List ℕ) (l : LineRead) where
@@ -44,6 +46,19 @@ module _ (n : Noted) (kilos : List ℕ) (l : LineRead) where
   unfolding count_after outputs_after taken_after kilos_after
   after_other p g = (rw (p, g), rw g)
 
+module _ (s : Stated) (l : LineRead) where
+  pub stated_figures : l.letter ≡ letter PrecursorFigures → stated_after s l ≡ figures_noted s l
+  unfolding stated_after
+  stated_figures e = rw e
+
+  pub stated_use : l.letter ≡ letter PrecursorUse → stated_after s l ≡ use_noted s
+  unfolding stated_after
+  stated_use e = rw e
+
+  pub stated_other : eqb l.letter (letter PrecursorFigures) ≡ false → eqb l.letter (letter PrecursorUse) ≡ false → stated_after s l ≡ s
+  unfolding stated_after
+  stated_other f u = rw (f, u)
+
 -- ---- what is asked of the words
 
 module _ (l : LineRead) (keeps : LineKeeps l) where
@@ -64,3 +79,11 @@ module _ (l : LineRead) (keeps : LineKeeps l) where
         omega (arith, (n.0 refl).high, w.0 refl),
         (omega (arith, (n.1.0 refl).high, w.1.0 refl), omega (arith, (n.1.1.0 refl).high, w.1.1.0 refl)),
       )
+
+  pub figures_asked : l.letter ≡ letter PrecursorFigures → (get_or l.words 0 0 < PRECURSORS) × (get_or l.words 1 0 ≤ 3)
+  unfolding rules
+  figures_asked e =
+      let k = kind_at l PrecursorFigures e in
+      let n = in_rules limits (record_read l) keeps.ranges PrecursorFigures k in
+      let w = are_words l keeps PrecursorFigures k in
+      (omega (arith, (n.0 refl).high, w.0 refl), omega (arith, (n.1.0 refl).high, w.1.0 refl))

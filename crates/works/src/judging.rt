@@ -1,10 +1,10 @@
-// Document 01, "Sheets sent back": a line that was read, judged by itself and under the lines above it.
+// Document 01, "Sheets sent back", and document 02, ticket 4: a line that was read, judged by itself and under the lines above it.
 ghost use Rattle.std.specs.Prelude.{◌≡◌};
 ghost use Rattle.quantity.specs.Limits.{limits};
 ghost use Rattle.checks.specs.Numbers.{number_judged};
 ghost use Rattle.works.specs.Works.{of_process, of_pair, above_at, lacks_lf, state_number};
 
-use super::Noted;
+use super::{Noted, Stated};
 use checks::above::Above;
 use checks::refusals::Refusal;
 use goods::{KilosByPair, KilosByProcess, SIZE};
@@ -44,10 +44,10 @@ fn lacks_lf(end: usize, size: Option<usize>) -> bool
 }
 
 impl Noted {
-    // What the lines above say of a line: of an own good the kilograms too.
+    // What the lines above say of a line: of an own good the kilograms too, and of a K line the ranks.
     #[tactic(auto, unfolding(sheet::specs::Kinds::kind_of, sheet::specs::Kinds::kind_among))]
-    pub fn above(&self, kilos: &KilosByPair, l: &LineRead) -> Above
-        ensures { result ≡ above_at self.now kilos.now l.now }
+    pub fn above(&self, stated: &Stated, kilos: &KilosByPair, l: &LineRead) -> Above
+        ensures { result ≡ above_at self.now stated.now kilos.now l.now }
     {
         let lines = self.lines;
         let processes = self.count;
@@ -61,8 +61,15 @@ impl Noted {
                     output: of_process(&self.outputs, from),
                     taken: of_process(&self.taken, from),
                     pair: of_pair(kilos, from, to),
+                    ranks: 0,
                 }
             }
+            Kind::PrecursorFigures => Above {
+                lines,
+                processes,
+                ranks: stated.ranks(l.words[0]),
+                ..Above::default()
+            },
             _ => Above {
                 lines,
                 processes,
@@ -71,14 +78,15 @@ impl Noted {
         }
     }
 
-    // Rows 2 to 13 of a line in a sheet of `size` bytes, None where no line of it can lack its LF, under the lines above.
+    // Rows 2 to 13 and 17 of a line in a sheet of `size` bytes, None where no line of it can lack its LF, under the lines above.
     pub fn judge(
         &self,
+        stated: &Stated,
         kilos: &KilosByPair,
         l: &LineRead,
         size: Option<usize>,
     ) -> Result<(), Refusal>
-        ensures { number_judged result ≡ state_number limits self.now kilos.now l.now size }
+        ensures { number_judged result ≡ state_number limits self.now stated.now kilos.now l.now size }
     {
         if LINES <= self.lines {
             return Err(Refusal::TooManyLines);
@@ -86,6 +94,6 @@ impl Noted {
         if lacks_lf(l.end, size) {
             return Err(Refusal::LacksLF);
         }
-        line_refusal(l, self.above(kilos, l))
+        line_refusal(l, self.above(stated, kilos, l))
     }
 }

@@ -4,8 +4,9 @@
 pub mod judging;
 
 ghost use Rattle.std.specs.Prelude.{◌≡◌};
-ghost use Rattle.works.specs.Works.{nothing_noted};
+ghost use Rattle.works.specs.Works.{nothing_noted, nothing_stated, ranks_of};
 
+use checks::ranges::PRECURSOR;
 use goods::KilosByProcess;
 use ledger::Ledger;
 
@@ -25,6 +26,44 @@ impl Noted {
         ensures { result ≡ nothing_noted }
     {
         Noted::default()
+    }
+}
+
+// Precursors have the numbers from 1 on; place 0 is no precursor's.
+pub const PRECURSORS: usize = PRECURSOR as usize + 1;
+
+// What the lines above say of precursors, each at its number: the ranks at which K lines state figures, bit k for rank k, and the end of the K
+// line that governs among them, as a place of a sheet that is not too long for row 1, 0 where there is none; and whether an N line is there. It
+// is lent, as the kilograms of pairs are. The figures themselves are read from that line once an N line asks for them: they would have 2,048
+// bytes, which would be set to zero for every sheet.
+#[derive(Clone, Copy)]
+pub struct Stated {
+    pub ranks: [u8; PRECURSORS],
+    pub ends: [u16; PRECURSORS],
+    pub used: bool,
+}
+
+impl Stated {
+    // Above the first line: nothing is stated.
+    pub fn none() -> Stated
+        ensures { result ≡ nothing_stated }
+    {
+        Stated {
+            ranks: [0; PRECURSORS],
+            ends: [0; PRECURSORS],
+            used: false,
+        }
+    }
+
+    // The ranks stated for a precursor, none where it has no place.
+    pub fn ranks(&self, precursor: u64) -> u64
+        ensures { result ≡ ranks_of self.now.ranks precursor }
+    {
+        if precursor < PRECURSORS as u64 {
+            u64::from(self.ranks[precursor as usize])
+        } else {
+            0
+        }
     }
 }
 

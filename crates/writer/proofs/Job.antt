@@ -15,6 +15,7 @@ use Rattle.std.specs.Prelude.{Err}
 use Rattle.checks.specs.Numbers.{refusal_number, refused_by}
 use Rattle.checks.specs.declared.refusals.Refused.{Refused}
 use Rattle.sheet.proofs.First.{accepted_passes}
+use Rattle.attribution.specs.Governing.{governed}
 use Rattle.attribution.specs.Reckoning as attribution
 use Rattle.attribution.specs.Verdict.{reckoner_checks}
 use Rattle.report.specs.Report.{report_of}
@@ -77,7 +78,7 @@ module _ (sheet space : List ℕ) where
   abbrev last : List Check
   last = check 16 0 (space_too_short sheet space) ∷ []
 
-  -- a row from 1 to 15 applies
+  -- a row before 16 applies
   module _ (e : Refused) (v : first_of (reckoner_checks limits sheet) ≡ refused_by e) where
     pub printed_refusal : carbon limits sheet ≡ printed (refused_by e) []
     unfolding carbon
@@ -96,7 +97,7 @@ module _ (sheet space : List ℕ) where
   module _ (r : Reckoning) (h : Figured sheet r) where
     pub bytes_are : bytes_held r ≡ sheet_report sheet
     unfolding bytes_held sheet_report
-    bytes_are = ap (λ (q : attribution.Reckoning). report_bytes (report_of q)) (reckoning_is (records_of sheet) r h.figured)
+    bytes_are = ap (λ (q : attribution.Reckoning). report_bytes (report_of q)) (reckoning_is (governed (records_of sheet)) r h.figured)
 
     pub report_short : length (bytes_held r) ≤ LONGEST
     report_short =

@@ -5,7 +5,7 @@
 
 use std::io::{self, Write};
 
-use reference::samples::{Dice, KILOS, Maker, Size, full_sheet, mixed_sheet, pad};
+use reference::samples::{Dice, KILOS, Maker, Size, every_figure, full_sheet, mixed_sheet, pad};
 use reference::sheet::{MOST_BYTES, MOST_LINES};
 use reference::{Outcome, report, report_into};
 
@@ -17,7 +17,7 @@ const BLANK: u8 = 0xaa;
 
 struct Cases {
     out: Vec<u8>,
-    counts: [usize; 17],
+    counts: [usize; 19],
     dice: Dice,
 }
 
@@ -162,7 +162,7 @@ struct Limits {
     ranges: &'static [(usize, u64, u64)],
 }
 
-const LIMITS: [Limits; 11] = [
+const LIMITS: [Limits; 13] = [
     Limits {
         kind: "P",
         fields: &["3", "7"],
@@ -267,7 +267,25 @@ const LIMITS: [Limits; 11] = [
         fields: &["1", "2", "77"],
         ranges: &[(0, 0, 16), (1, 0, 16), (2, 1, KILOS)],
     },
+    Limits {
+        kind: "K",
+        fields: &["7", "2", "3000", "4000"],
+        ranges: &[
+            (0, 1, 255),
+            (1, 1, 3),
+            (2, 0, 100_000_000),
+            (3, 0, 100_000_000),
+        ],
+    },
+    Limits {
+        kind: "N",
+        fields: &["1", "9", "77"],
+        ranges: &[(0, 1, 16), (1, 1, 255), (2, 1, KILOS)],
+    },
 ];
+
+/// Two processes, and figures that most uses of the precursors 1 and 9 need.
+const FIGURES: &str = "P,1,900\nP,2,90\nK,9,3,5500,500\nK,1,1,1499,1500\n";
 
 impl Limits {
     fn line(&self, place: usize, value: &str) -> String {
@@ -299,8 +317,9 @@ fn ranges(cases: &mut Cases) {
             if let Some(below) = highest.checked_sub(1) {
                 values.push(below.to_string());
             }
+            let above = if limits.kind == "N" { FIGURES } else { TWO };
             for value in values {
-                cases.add_lines(TWO, &limits.line(place, &value));
+                cases.add_lines(above, &limits.line(place, &value));
             }
         }
     }
@@ -309,6 +328,7 @@ fn ranges(cases: &mut Cases) {
     for (kind, ends, rest) in [
         ("S", 1, "2,1,5,-,0,10000,0"),
         ("B", 1, "5,6,7"),
+        ("N", 1, "5,6"),
         ("H", 2, "5,600"),
         ("W", 2, "5"),
         ("E", 2, "5,600"),
@@ -340,6 +360,8 @@ fn ranges(cases: &mut Cases) {
         "W,1,0,1",
         "H,0,1,1,1",
         "B,1,1,1,1",
+        "K,1,1,1,1",
+        "N,1,1,1",
         "S,1,3,0,1,1,0,10000,0",
     ] {
         cases.add(format!("P,1,5\n{other}\nP,2,5\n"));
@@ -419,6 +441,8 @@ fn spelling(cases: &mut Cases) {
         "\u{feff}P,3,5",
         "#",
         "O,0,1,5",
+        "k,1,1,5,5",
+        "n,1,1,5",
         "w,0,1,5",
         "3,P,5",
         "Hh,0,1,5,5",
@@ -494,10 +518,13 @@ fn several_faults(cases: &mut Cases) {
             _ => {}
         }
         let end = if cases.dice.once_in(12) { "" } else { "\n" };
-        let above =
-            cases
-                .dice
-                .pick(&["", "P,1,5\n", "P,1,90\nP,2,90\n", "P,1,5\nP,2,5\nG,1,2,5\n"]);
+        let above = cases.dice.pick(&[
+            "",
+            "P,1,5\n",
+            "P,1,90\nP,2,90\n",
+            "P,1,5\nP,2,5\nG,1,2,5\n",
+            FIGURES,
+        ]);
         cases.add(format!("{above}{},{}{end}", limits.kind, fields.join(",")));
     }
     for sheet in [
@@ -537,6 +564,15 @@ fn several_faults(cases: &mut Cases) {
         "P,1,5\nS,1,1,0,1,-,-,1,10001\n",
         "P,1,5\n\nP,3",
         "\nP,1,5",
+        "K,17,0,x,1\n",
+        "K,256,x,1,1\n",
+        "K,1,1,1,1\nK,1,1,1,x\n",
+        "K,1,1,1,1\nK,1,1,1,1,1\n",
+        "K,1,1,1,1\nK,1,1,1,1",
+        "P,1,5\nN,2,7,x\n",
+        "P,1,5\nN,2,256,1\n",
+        "P,1,5\nN,2,7,1\n",
+        "P,1,5\nN,1,7,1\nN,2,7,1\n",
     ] {
         cases.add(sheet);
     }
@@ -839,6 +875,232 @@ fn goods(cases: &mut Cases) {
     }
 }
 
+/// The six orders of three ranks.
+const ORDERS: [[usize; 3]; 6] = [
+    [0, 1, 2],
+    [0, 2, 1],
+    [1, 0, 2],
+    [1, 2, 0],
+    [2, 0, 1],
+    [2, 1, 0],
+];
+
+/// Figures of bought precursors at several ranks, and their use.
+fn precursors(cases: &mut Cases) {
+    // Three ranks in each order, the use at each place; figures rise or fall by
+    // the rank.
+    let rising = [
+        "K,7,1,1000,2000\n",
+        "K,7,2,3000,4000\n",
+        "K,7,3,5000,6000\n",
+    ];
+    let falling = [
+        "K,7,1,6000,5000\n",
+        "K,7,2,4000,3000\n",
+        "K,7,3,2000,1000\n",
+    ];
+    for figures in [rising, falling] {
+        for order in ORDERS {
+            for place in 0..=3 {
+                let mut lines = order.map(|rank| figures[rank]).to_vec();
+                lines.insert(place, "N,1,7,10\n");
+                cases.add(format!("P,1,1\n{}", lines.concat()));
+            }
+        }
+    }
+    // Each set of ranks.
+    for set in 1..8 {
+        let lines: String = (0..3)
+            .filter(|rank| set >> rank & 1 == 1)
+            .map(|rank| rising[rank])
+            .collect();
+        cases.add(format!("P,1,1\nN,1,7,10\n{lines}N,1,7,100\n"));
+        cases.add(lines);
+    }
+    for sheet in [
+        // Two precursors, one of which has no figures at rank 1.
+        "P,1,1\nN,1,7,10\nN,1,8,10\nK,8,3,300,400\nK,7,1,1000,2000\n",
+        // A rank that comes after two uses.
+        "P,1,1\nK,7,3,5000,6000\nN,1,7,10\nN,1,7,20\nK,7,1,1000,2000\n",
+        // Uses in two processes, and what is passed on.
+        "P,1,2\nP,2,1\nK,7,1,1000,2000\nN,1,7,10\nN,2,7,30\nG,1,2,1\n",
+        // The grams are in entered, and heat to the outside and power lower it.
+        "P,1,1000\nN,1,1,100\nK,1,2,1900000,250000\nE,1,0,1,1000000\n",
+        "P,1,9\nK,1,2,1000,0\nN,1,1,5\nH,1,0,9,1000\n",
+        // Figures that no use needs.
+        "P,1,1\nK,7,2,3000,4000\n",
+        "P,1,1\nK,7,2,3000,4000\nN,1,7,10\nK,8,1,1,1\n",
+        "P,1,1\nK,6,1,9,9\nK,7,2,3000,4000\nN,1,7,10\n",
+        // K lines alone; K above P lines; N without its P line.
+        "K,1,1,0,0\n",
+        "K,255,3,100000000,100000000\n",
+        "K,7,1,5,5\nP,1,5\n",
+        "P,1,5\nK,7,1,5,5\nP,2,5\n",
+        "N,1,7,1\n",
+        "K,7,1,5,5\nN,1,7,1\n",
+        "N,1,7,1\nK,7,1,5,5\nP,1,5\n",
+        "P,1,5\nK,7,1,5,5\nN,2,7,1\n",
+    ] {
+        cases.add(sheet);
+    }
+    // Rounded for each line and each figure.
+    for rest in [499, 500, 501, 999, 1_000, 1_499, 1_500] {
+        for count in [1, 2, 3] {
+            let uses = "N,1,7,1\n".repeat(count);
+            cases.add(format!("P,1,7\nK,7,2,{rest},{}\n{uses}", rest + 1));
+            cases.add(format!(
+                "P,1,7\n{uses}B,1,1,{rest},0\nK,7,3,{rest},{rest}\n"
+            ));
+            cases.add(format!("P,1,7\nK,7,1,{rest},{rest}\nN,1,7,{count}\n"));
+        }
+    }
+    // The highest of all fields.
+    cases.add("P,1,1\nK,255,1,100000000,100000000\nN,1,255,10000000000\n");
+    cases.add_spaces(b"K,1,1,5,5\nK,255,3,0,0\n");
+    cases.add_spaces(b"P,1,7\nN,1,7,1000\nK,7,2,1900,250\n");
+    second_of_rank(cases);
+    no_figures(cases);
+    for round in 0..60 {
+        let size = [Size::Small, Size::Mixed, Size::Highest][round % 3];
+        let count = cases.dice.between(1, 4) as usize;
+        let mut maker = Maker::new(&mut cases.dice, count, size);
+        for _ in 0..cases.dice.between(1, 6) {
+            maker.precursor_use(&mut cases.dice);
+            maker.precursor_figures(&mut cases.dice);
+        }
+        maker.good(&mut cases.dice);
+        cases.add(&maker.sheet);
+        let mut sheet = maker.sheet;
+        slip(&mut cases.dice, &mut sheet, round % 6);
+        cases.add(sheet);
+    }
+    every_precursor(cases);
+}
+
+/// A second K line of a precursor and rank, and lines that are near to one.
+fn second_of_rank(cases: &mut Cases) {
+    for precursor in [1, 7, 254, 255] {
+        for rank in 1..=3 {
+            let first = format!("K,{precursor},{rank},5,5\n");
+            let others = format!("K,9,{rank},1,1\nK,{precursor},{},6,6\n", rank % 3 + 1);
+            cases.add(format!("{first}{first}"));
+            cases.add(format!("{first}{others}"));
+            cases.add(format!("{others}{first}K,{precursor},{rank},8,8\n"));
+            cases.add(format!("P,1,5\nN,1,{precursor},3\n{first}{others}{first}"));
+            cases.add(format!("{first}{first}W,0,1,1\n"));
+            cases.add(format!("{first}W,0,1,1\n{first}"));
+        }
+    }
+}
+
+/// Uses of precursors without figures: the first of them, after the refusals of
+/// all lines.
+fn no_figures(cases: &mut Cases) {
+    let above = "P,1,5\nP,2,5\nN,1,7,1\n";
+    for below in [
+        "",
+        "N,2,7,1\n",
+        "N,1,8,1\n",
+        "N,1,1,1\nN,1,255,1\n",
+        "K,8,1,5,5\n",
+        "K,1,1,5,5\nK,9,3,5,5\n",
+        "K,8,1,5,5\nN,1,8,1\n",
+        "K,7,3,5,5\n",
+        "N,1,8,1\nK,7,3,5,5\n",
+        "N,2,8,1\nK,8,3,5,5\n",
+        "N,2,8,1\nN,2,9,1\nK,7,3,5,5\n",
+        "G,1,2,1\nH,0,1,1,500\n",
+    ] {
+        cases.add(format!("{above}{below}"));
+        cases.add(format!("P,1,5\nP,2,5\n{below}N,1,7,1\n"));
+        // 18 comes before 16, whatever space there is.
+        cases.add_with(format!("{above}{below}").as_bytes(), 0);
+    }
+    for last in [
+        "W,0,1,1",
+        "\n",
+        "W,0,1\n",
+        "W,0,1,01\n",
+        "W,0,1,0\n",
+        "P,3,5\n",
+        "N,3,7,1\n",
+        "G,2,1,1\n",
+        "S,1,1,0,1,-,1,1,0\n",
+        "G,1,2,1\nG,1,2,1\n",
+        "G,1,2,6\n",
+        "K,8,1,5,5\nK,8,1,5,5\n",
+    ] {
+        cases.add(format!("{above}{last}"));
+        cases.add(format!("{above}N,2,8,1\nW,0,1,1\n{last}"));
+    }
+    for precursor in [1, 2, 128, 254, 255] {
+        let others: String = (1..=255)
+            .filter(|other| *other != precursor)
+            .map(|other| format!("K,{other},{},5,5\n", other % 3 + 1))
+            .collect();
+        cases.add(format!("P,1,5\n{others}N,1,{precursor},1\n"));
+        cases.add(format!("P,1,5\nN,1,{precursor},1\n{others}"));
+    }
+}
+
+/// All 765 K lines that there can be, with uses of every precursor, and sheets
+/// as full as they can be.
+fn every_precursor(cases: &mut Cases) {
+    for round in 0..6 {
+        let size = [Size::Mixed, Size::Highest][round % 2];
+        let mut lines = every_figure(&mut cases.dice, size);
+        if round < 2 {
+            cases.add(lines.concat());
+            let again = lines[cases.dice.index(765)].clone();
+            cases.add(lines.concat() + &again);
+        }
+        if round > 2 {
+            // Without most of the ranks, and all three of some precursors.
+            lines.retain(|_| cases.dice.once_in(3));
+        }
+        let mut uses: Vec<String> = (1..=255)
+            .map(|precursor| {
+                let kg = size.number(&mut cases.dice, 1, KILOS);
+                format!("N,{},{precursor},{kg}\n", 1 + precursor % 16)
+            })
+            .collect();
+        if round == 4 {
+            let stated = |n: usize| {
+                lines
+                    .iter()
+                    .any(|line| line.starts_with(&format!("K,{n},")))
+            };
+            let mut number = 0;
+            uses.retain(|_| {
+                number += 1;
+                stated(number)
+            });
+        }
+        lines.extend(uses);
+        cases.dice.shuffle(&mut lines);
+        cases.add(processes(16, KILOS) + &lines.concat());
+    }
+    // As many lines as there may be, the last of them K, and one more.
+    let uses: String = (0..4_094)
+        .map(|n| format!("N,1,{},1\n", 1 + n % 2))
+        .collect();
+    let sheet = format!("P,1,1\n{uses}");
+    cases.add(format!("{sheet}K,1,1,500,1500\n"));
+    cases.add(format!(
+        "P,1,1\nK,2,1,499,7\n{}K,1,1,500,1500\n",
+        &uses[8..]
+    ));
+    cases.add(format!("{sheet}K,1,1,500,1500\nK,2,1,1,1\n"));
+    // The highest figures, 65,536 bytes.
+    let mut sheet = processes(16, KILOS) + "K,255,1,100000000,100000000\n";
+    while sheet.len() + 60 < MOST_BYTES {
+        sheet += "N,1,255,10000000000\n";
+    }
+    let mut sheet = sheet.into_bytes();
+    pad(&mut sheet, MOST_BYTES);
+    cases.add(sheet);
+}
+
 /// Balances below zero by every kind of line, self-fed power, waste gas in
 /// every direction.
 fn balances(cases: &mut Cases) {
@@ -861,6 +1123,7 @@ fn balances(cases: &mut Cases) {
         "W,2,1,60",
         "E,0,1,30,400000",
         "B,1,3,4000,5000",
+        "N,1,5,3\nK,5,2,4000,5000",
     ];
     for low in lowering {
         for high in raising {
@@ -925,7 +1188,7 @@ fn mixed(cases: &mut Cases) {
         let sheet: Vec<u8> = (0..length)
             .map(|_| match round % 3 {
                 0 => cases.dice.roll() as u8,
-                1 => cases.dice.pick(b"PSHWEBG0123456789,,,,\n\n-"),
+                1 => cases.dice.pick(b"PSHWEBGKN0123456789,,,,\n\n-"),
                 _ => cases.dice.pick(b"PW01,,\n"),
             })
             .collect();
@@ -937,7 +1200,7 @@ fn mixed(cases: &mut Cases) {
 fn slip(dice: &mut Dice, sheet: &mut Vec<u8>, way: usize) {
     let at = dice.index(sheet.len());
     match way {
-        0 => sheet[at] = dice.pick(b"PSHWEBG0123456789,\n-x \r\0\xff"),
+        0 => sheet[at] = dice.pick(b"PSHWEBGKN0123456789,\n-x \r\0\xff"),
         1 => drop(sheet.remove(at)),
         2 => sheet.insert(at, sheet[at]),
         3 => sheet.truncate(at),
@@ -1060,7 +1323,7 @@ fn full(cases: &mut Cases) {
 fn main() -> io::Result<()> {
     let mut cases = Cases {
         out: Vec::new(),
-        counts: [0; 17],
+        counts: [0; 19],
         dice: Dice::new(SEED),
     };
     for family in [
@@ -1074,6 +1337,7 @@ fn main() -> io::Result<()> {
         charcoal_and_iron,
         rounding,
         goods,
+        precursors,
         balances,
         spaces,
         mixed,

@@ -8,4 +8,4 @@ invariant-loop-l l =
     (goal.iterator-loop-l).can_next l.l-iterator
     × (goal.iterator-loop-l).is_finite l.l-iterator
     × (l.l-iterator.sheet.now ≡ l.s)
-    × ReadingAt l.s l.l-iterator.at l.works l.kilos
+    × ReadingAt l.s l.l-iterator.at l.works l.stated l.kilos

@@ -14,17 +14,17 @@ returns-in_err-works-clause-reckoned c =
     rw (given.1, given.2) (refused_line _ c.if-s-gt-BYTES.false (omega (arith, some)) c.in_err-works.ensures)
 
 -- or none is refused
-pub figures_of-r-requires : goal.figures_of-r-requires
-figures_of-r-requires c =
+pub put_figures-requires : goal.put_figures-requires
+put_figures-requires c =
     let some = eqb-false _ _ (sym c.if-is_empty.ensures) in
     can_close _ c.if-s-gt-BYTES.false (omega (arith, some)) c.in_ok-works.ensures
 
 pub returns-clause-reckoned : goal.returns-clause-reckoned
 returns-clause-reckoned c =
     let some = eqb-false _ _ (sym c.if-is_empty.ensures) in
-    accepted_answer _ c.if-s-gt-BYTES.false (omega (arith, some)) c.in_ok-works.ensures _ c.figures_of-r.ensures
+    accepted_answer _ c.if-s-gt-BYTES.false (omega (arith, some)) c.in_ok-works.ensures _ c.put_figures.ensures
 
 pub returns-clause-sum : goal.returns-clause-sum
 returns-clause-sum c =
     let some = eqb-false _ _ (sym c.if-is_empty.ensures) in
-    accepted_sum _ c.if-s-gt-BYTES.false (omega (arith, some)) c.in_ok-works.ensures _ c.figures_of-r.ensures
+    accepted_sum _ c.if-s-gt-BYTES.false (omega (arith, some)) c.in_ok-works.ensures _ c.put_figures.ensures

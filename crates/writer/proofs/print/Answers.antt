@@ -1,4 +1,4 @@
--- `writer::print` meets its contract: the report where none of the rows 1 to 15 applies; shown so that a byte touched past what is printed is
+-- `writer::print` meets its contract: the report where no row but 16 applies; shown so that a byte touched past what is printed is
 -- refused for the fact. Assumes nothing.
 use Rattle.writer.proofs.Job.{printed_report}
 use Rattle.writer.proofs.print.Goals as goal
