@@ -5,7 +5,7 @@ use mathlib.Core.List.{List}
 use Prim.Native.Nat.{ℕ, ◌≤◌, ◌<◌}
 use native.Mathlib.Omega.{arith}
 use lib.Dec.{eqb}
-use lib.ListN.{length, get_or}
+use lib.ListN.{length, get_or, replicate}
 use Rattle.std.specs.Prelude.{None, Some}
 use Rattle.std.proofs.lemmas.Option.{none-some, same_Some}
 use Rattle.quantity.specs.Limits.{limits}
@@ -18,6 +18,7 @@ use Rattle.sheet.specs.declared.Kind.TheVariants.{PrecursorFigures}
 use Rattle.sheet.proofs.First.{accepted_passes}
 use Rattle.sheet.proofs.Passed.{line_passed}
 use Rattle.sheet.proofs.Table.{kind_is}
+use Rattle.ledger.proofs.Bounds.{each_same}
 use Rattle.entries.proofs.Ranges.{in_rules, are_words}
 use Rattle.attribution.specs.Governing.{governing_direct, governing_indirect}
 use Rattle.works.specs.Works.{PRECURSORS, ranks_of}
@@ -71,3 +72,12 @@ pub record FiguresBefore (rs : List Record) (ranks : List ℕ) (n : ℕ) (direct
   pub indirect_size : length indirect ≡ PRECURSORS
   pub at : (p : ℕ) → p < n → eqb (ranks_of ranks p) 0 ≡ false
       → (get_or direct p 0 ≡ governing_direct rs p) × (get_or indirect p 0 ≡ governing_indirect rs p)
+  pub none : (p : ℕ) → eqb (ranks_of ranks p) 0 ≡ true → (get_or direct p 0 ≡ 0) × (get_or indirect p 0 ≡ 0)
+
+pub figures_start : (rs : List Record) (ranks : List ℕ) → FiguresBefore rs ranks 0 (replicate PRECURSORS 0) (replicate PRECURSORS 0)
+figures_start rs ranks = record {
+  direct_size = refl;
+  indirect_size = refl;
+  at = λ p h e. absurd (omega arith);
+  none = λ p e. let zero = each_same (λ (x : ℕ). x ≡ 0) 0 refl PRECURSORS p in (zero, zero);
+}

@@ -77,10 +77,12 @@ pub record PlacesIn (sheet : List ℕ) (rs : List Record) (s : Stated) : Type 0 
 abbrev pub governing_of : List Record → (ranks : List ℕ) → (p : ℕ) → Option (ℕ × ℕ)
 governing_of rs ranks p = cond (eqb (ranks_of ranks p) 0) None (Some (governing_direct rs p, governing_indirect rs p))
 
--- each precursor's, at its number, of those of which a rank is stated
+-- each precursor's, at its number: of those of which a rank is stated, and 0 of the others
 pub record FiguresAt (rs : List Record) (ranks direct indirect : List ℕ) : Type 0 where
   pub direct_at : (p : ℕ) → eqb (ranks_of ranks p) 0 ≡ false → get_or direct p 0 ≡ governing_direct rs p
   pub indirect_at : (p : ℕ) → eqb (ranks_of ranks p) 0 ≡ false → get_or indirect p 0 ≡ governing_indirect rs p
+  pub direct_none : (p : ℕ) → eqb (ranks_of ranks p) 0 ≡ true → get_or direct p 0 ≡ 0
+  pub indirect_none : (p : ℕ) → eqb (ranks_of ranks p) 0 ≡ true → get_or indirect p 0 ≡ 0
 
 -- the records of the lines above line k
 abbrev pub records_above : (sheet : List ℕ) → (k : ℕ) → List Record

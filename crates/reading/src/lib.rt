@@ -29,7 +29,7 @@ fn governing(s: &[u8], stated: &Stated, precursor: u64) -> Option<(u64, u64)>
     Some((k.words[2], k.words[3]))
 }
 
-// The figures that govern each precursor, at its number, of those of which a rank is stated.
+// The figures that govern each precursor, at its number; 0 where no rank of it is stated.
 #[derive(Clone, Copy)]
 struct Figures {
     direct: [u32; PRECURSORS],

@@ -8,9 +8,12 @@ use Rattle.lines.specs.Records.{records_of}
 use Rattle.sheet.specs.Kinds.{specific_figure}
 use Rattle.attribution.specs.Governing.{governing_direct, governing_indirect}
 use Rattle.works.specs.Works.{PRECURSORS, ranks_of}
-use Rattle.gathering.proofs.Placed.{some_cond, ranked, placed_small}
+use Rattle.gathering.proofs.Placed.{some_cond, ranked, placed_small, figures_start}
 use Rattle.reading.proofs.figures_of.Goals.{In-Some}
 use Rattle.reading.proofs.figures_of.Goals as goal
+
+pub loop-p-init : goal.loop-p-init
+loop-p-init c = figures_start _ _
 
 -- a rank is stated of this precursor
 module _ (c : In-Some) where
