@@ -42,20 +42,36 @@ struct Case {
     ghost fits: { (sheet ≤ 131072) × (space ≤ 8192) × (report ≤ 8192) },
 }
 
-// The number of eight digits at a place.
-fn number_at(h: &[u8; HEADER], at: usize) -> Option<usize>
-    requires { at + 8 ≤ 40 }
+// The digit of a byte, by its four low bits: each header is read, whatever its bytes are.
+fn digit(byte: u8) -> usize
+    ensures { result ≤ 15 }
 {
-    str::from_utf8(&h[at..at + 8]).ok()?.parse().ok()
+    usize::from(byte % 16)
 }
 
-// The case of a header, if its numbers can be read and it is of the greatest lengths at most.
+fn two_digits(h: &[u8; HEADER], at: usize) -> usize
+    requires { at + 2 ≤ 40 }
+    ensures { result ≤ 165 }
+{
+    digit(h[at]) * 10 + digit(h[at + 1])
+}
+
+// The number of eight digits at a place.
+fn number_at(h: &[u8; HEADER], at: usize) -> usize
+    requires { at + 8 ≤ 40 }
+{
+    let high = two_digits(h, at) * 100 + two_digits(h, at + 2);
+    let low = two_digits(h, at + 4) * 100 + two_digits(h, at + 6);
+    high * 10000 + low
+}
+
+// The case of a header, if it is of the greatest lengths at most.
 fn case_of(h: &[u8; HEADER]) -> Option<Case> {
-    let sheet = number_at(h, 0)?;
-    let space = number_at(h, 8)?;
-    let number = number_at(h, 16)? as u64;
-    let line = number_at(h, 24)?;
-    let report = number_at(h, 32)?;
+    let sheet = number_at(h, 0);
+    let space = number_at(h, 8);
+    let number = number_at(h, 16) as u64;
+    let line = number_at(h, 24);
+    let report = number_at(h, 32);
     if (SHEET < sheet) | (SPACE < space) | (SPACE < report) {
         return None;
     }

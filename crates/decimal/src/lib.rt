@@ -6,11 +6,12 @@ ghost use Rattle.decimal.specs.Spelling.{spelling};
 ghost use Rattle.decimal.specs.Writing.{Put};
 
 // How many digits a number has: 0 has one, as 1 has.
+#[tactic(auto, using(crate::proofs::Widths::length_one, crate::proofs::Widths::length_some))]
 pub fn width(n: u64) -> usize
     ensures value { result ≡ length (spelling n) }
     ensures bounded { result ≤ 20 }
 {
-    n.max(1).ilog10() as usize + 1
+    n.checked_ilog10().map_or(1, |power| power as usize + 1)
 }
 
 // Writes a number's digits before a place of a lent space, from the last to the first, and gives the place of the first. Nothing is

@@ -13,7 +13,7 @@ use lib.Dec.{leb}
 use lib.ListN.{length, take, drop, get_or}
 use lib.Seq.{drop-cons, drop-length}
 use Rattle.decimal.specs.Number.{is_digit, all_digits, is_number, value_from, value}
-use Rattle.std.specs.Prelude.{Option, Some, None, MatchOption, IsSomeAnd}
+use Rattle.std.specs.Prelude.{Option, Some, None, MatchOption}
 use Rattle.decimal.proofs.Bools.{and_both}
 use Rattle.lines.specs.Lines.{LF, COMMA}
 use Rattle.lines.specs.Records.{Field, number, dash, other, field_of}
@@ -42,6 +42,10 @@ field_none : field_length [] ≡ 0
 unfolding field_length
 field_none = refl
 
+-- no byte is left where the sheet ends
+pub field_over : (s : List ℕ) (i : ℕ) → i ≡ length s → field_length (drop i s) ≡ 0
+field_over s i e = ap (λ (j : ℕ). field_length (drop j s)) e ∙ ap field_length (drop-length s) ∙ field_none
+
 from_here : (s : List ℕ) (i : ℕ) → i < length s → drop i s ≡ get_or s i 0 ∷ drop (i + 1) s
 from_here s i h = rw add-one (drop-cons s i 0 h)
 
@@ -57,7 +61,7 @@ field_stop s i h w =
 
 -- a byte that is neither is one of the field
 module _ (s : List ℕ) (i : ℕ) (h : i < length s) (p : get_or s i 0 ≡ LF → ⊥) (q : get_or s i 0 ≡ COMMA → ⊥) where
-  longer : field_length (drop i s) ≡ suc (field_length (drop (i + 1) s))
+  pub longer : field_length (drop i s) ≡ suc (field_length (drop (i + 1) s))
   longer = ap field_length (from_here s i h) ∙ field_past (get_or s i 0) (drop (i + 1) s) p q
 
   pub field_left : field_at s i ≡ get_or s i 0 ∷ field_at s (i + 1)
@@ -102,11 +106,6 @@ digit_next : (n b : ℕ) (bs : List ℕ) → is_digit b ≡ true
 unfolding digits_from all_digits value_from
 digit_next n b bs h = rw (h, cut)
 
--- no digit any more, whatever follows
-digit_none : (b : ℕ) (bs : List ℕ) → digits_from None bs ≡ digits_from None (b ∷ bs)
-unfolding digits_from
-digit_none b bs = refl
-
 other_next : (held : Option ℕ) (b : ℕ) (bs : List ℕ) → is_digit b ≡ false → digits_from None bs ≡ digits_from held (b ∷ bs)
 unfolding digits_from all_digits
 other_next (Some n) b bs h = rw h
@@ -139,7 +138,7 @@ module _ (s : List ℕ) (start : ℕ) (held : Option ℕ) (end : ℕ) (k : Scann
   pub scanned_end : length s ≤ end → ScannedAt s start (stopped held (length s))
   scanned_end h =
       let e : end ≡ length s = omega (arith, k.inside) in
-      rw e at (scanned (ap (λ (j : ℕ). field_length (drop j s)) e ∙ ap field_length (drop-length s) ∙ field_none))
+      rw e at (scanned (field_over s end e))
 
   module _ (h : end < length s) where
     abbrev b : ℕ
@@ -161,12 +160,8 @@ module _ (s : List ℕ) (start : ℕ) (held : Option ℕ) (end : ℕ) (k : Scann
             number_is = e ∙ ap (digits_from held) (sym (field_left s end h p q)) ∙ k.number_is;
           }
 
-      other_scanned : is_digit b ≡ false → Scanning s start None (end + 1)
+      pub other_scanned : is_digit b ≡ false → Scanning s start None (end + 1)
       other_scanned d = further None tt (other_next held b (field_at s (end + 1)) d)
-
-      none_left : held ≡ None → Scanning s start None (end + 1)
-      none_left e =
-          further None tt (digit_none b (field_at s (end + 1)) ∙ ap (λ (n : Option ℕ). digits_from n (b ∷ field_at s (end + 1))) (sym e))
 
     -- a byte below `0`, or above `9`
     pub below_none : (b ≡ LF → ⊥) → (b ≡ COMMA → ⊥) → b < 48 → Scanning s start None (end + 1)
@@ -174,6 +169,20 @@ module _ (s : List ℕ) (start : ℕ) (held : Option ℕ) (end : ℕ) (k : Scann
 
     pub above_none : 57 < b → Scanning s start None (end + 1)
     above_none g = other_scanned (λ e. omega arith) (λ e. omega arith) (simp (lt-leb b 57 g, le-leb 48 b (omega arith)))
+
+    -- a byte that is no digit
+    pub other_step : (b ≡ LF → ⊥) → (b ≡ COMMA → ⊥) → (48 ≤ b → b ≤ 57 → ⊥) → Scanning s start None (end + 1)
+    other_step p q n =
+        elim (dec_le 48 b) [
+          | yes l ↦ above_none (lt_of_not-le (n l))
+          | no l ↦ below_none p q (lt_of_not-le l)
+        ]
+
+-- no number any more: the rest of the field is passed over
+pub none_left : (s : List ℕ) (start end : ℕ) → Scanning s start None end → (last : ℕ) → last ≡ end + field_length (drop end s) → last ≤ length s
+    → ScannedAt s start (stopped None last)
+unfolding digits_from
+none_left s start end k last e l = record { number_is = k.number_is; end = omega (arith, k.ends); most = l }
 
 module _ (s : List ℕ) (start : ℕ) where
   pub digit_scanned : (value end : ℕ) → Scanning s start (Some value) end → end < length s → is_digit (get_or s end 0) ≡ true
@@ -184,18 +193,11 @@ module _ (s : List ℕ) (start : ℕ) where
       further s start (Some value) end k h (λ e. omega arith) (λ e. omega arith) (Some (min (value * 10 + (b - 48)) CAP)) (omega arith)
       (digit_next value b (field_at s (end + 1)) d)
 
-  -- a digit more, where all were digits, and else no number any more
-  module _ (held : Option ℕ) (end : ℕ) (k : Scanning s start held end) (h : end < length s) (l : 48 ≤ get_or s end 0) (g : get_or s end 0 ≤ 57) where
-    pub digit_step : (next : Option ℕ) {Gives : ℕ → ℕ → Type 0} → MatchOption held (next ≡ None) (λ (n : ℕ). IsSomeAnd next (Gives n))
-        → ((n m : ℕ) → Gives n m → m ≡ min (n * 10 + (get_or s end 0 - 48)) CAP) → Scanning s start next (end + 1)
-    digit_step next {Gives = Gives} c f = go held k next c
-      where
-        go : (held : Option ℕ) → Scanning s start held end → (next : Option ℕ)
-            → MatchOption held (next ≡ None) (λ (n : ℕ). IsSomeAnd next (Gives n)) → Scanning s start next (end + 1)
-        go (Some n) k (Some m) e =
-            rw (f n m e) (digit_scanned n end k h (simp (le-leb 48 (get_or s end 0) l, le-leb (get_or s end 0) 57 g)))
-        go (Some n) k None e = absurd e
-        go None k next e = rw e (none_left s start None end k h (λ e. omega arith) (λ e. omega arith) refl)
+  -- a digit more
+  pub digit_step : (value end : ℕ) → Scanning s start (Some value) end → end < length s → 48 ≤ get_or s end 0 → get_or s end 0 ≤ 57
+      → (digit : ℕ) → digit ≡ get_or s end 0 - 48 → (next : ℕ) → next ≡ min (value * 10 + digit) CAP → Scanning s start (Some next) (end + 1)
+  digit_step value end k h l g digit d next n =
+      rw (n, d) (digit_scanned value end k h (simp (le-leb 48 (get_or s end 0) l, le-leb (get_or s end 0) 57 g)))
 
 -- ---- what a field says
 

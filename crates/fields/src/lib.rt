@@ -1,7 +1,7 @@
 // A field read from the sheet's bytes: what stands between two commas, or before the LF.
 #![tactic(auto)]
 
-ghost use Rattle.std.specs.Prelude.{◌≡◌, ◌+◌, ◌≤◌, length, drop};
+ghost use Rattle.std.specs.Prelude.{MatchOption, ◌≡◌, ◌+◌, ◌-◌, ◌≤◌, length, drop};
 ghost use Rattle.fields.specs.Scan.{field_length, word_of};
 ghost use Rattle.fields.specs.Scan.{ScannedAt, FieldReadAt, FieldBounds};
 
@@ -50,23 +50,43 @@ pub enum Stop {
     LineEnd,
 }
 
+// A decimal digit's value.
+fn digit_of(byte: u8) -> Option<u64>
+    ensures { MatchOption result (48 ≤ byte → byte ≤ 57 → ⊥) (λ n. (48 ≤ byte) × (byte ≤ 57) × (n ≡ byte - 48)) }
+{
+    match byte {
+        b'0'..=b'9' => Some(u64::from(byte - b'0')),
+        _ => None,
+    }
+}
+
 // The field that starts here, in one pass over its bytes: it ends at a comma, at the LF or where the sheet ends.
 fn scan_field(s: &[u8], start: usize) -> Scanned
     requires { start ≤ length s.now }
     ensures { ScannedAt s.now start result }
 {
-    let mut number = Some(0);
+    let mut value = 0;
     for end in start..s.len() {
-        match s[end] {
-            digit @ b'0'..=b'9' => {
-                number = number.map(|n| (n * 10 + u64::from(digit - b'0')).min(CAP));
-            }
-            b',' | b'\n' => return Scanned { number, end },
-            _ => number = None,
+        match digit_of(s[end]) {
+            Some(digit) => value = (value * 10 + digit).min(CAP),
+            None => match s[end] {
+                b',' | b'\n' => {
+                    return Scanned {
+                        number: Some(value),
+                        end,
+                    };
+                }
+                _ => {
+                    return Scanned {
+                        number: None,
+                        end: first_end(s, end + 1),
+                    };
+                }
+            },
         }
     }
     Scanned {
-        number,
+        number: Some(value),
         end: s.len(),
     }
 }
@@ -92,5 +112,10 @@ pub fn first_end(s: &[u8], start: usize) -> usize
     ensures value { result ≡ start + field_length (drop start s.now) }
     ensures bounded { result ≤ length s.now }
 {
-    scan_field(s, start).end
+    for end in start..s.len() {
+        if let b',' | b'\n' = s[end] {
+            return end;
+        }
+    }
+    s.len()
 }

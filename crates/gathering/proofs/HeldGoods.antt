@@ -51,7 +51,7 @@ goods_start = record {
 
 -- ---- the place of a pair
 
-pair_at : (size i j f t g : ℕ) → j < size → t < size → only_at (i * size + j) (f * size + t) g ≡ only_at i f (only_at j t g)
+pub pair_at : (size i j f t g : ℕ) → j < size → t < size → only_at (i * size + j) (f * size + t) g ≡ only_at i f (only_at j t g)
 pair_at size i j f t g hj ht = go (eqb i f) refl (eqb j t) refl
   where
     first : i * size + j ≡ f * size + t → i ≡ f

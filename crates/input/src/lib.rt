@@ -1,19 +1,46 @@
 // Document 01: bytes read from standard input, and whether the program `carbon` read the sheet to its end.
 #![tactic(auto)]
 
-ghost use Rattle.std.specs.Prelude.{◌≡◌, ℕ, ◌<◌, ◌≤◌, [], ◌∷◌, length, take, true, false, Ok, IfOk, OnErr};
+ghost use Rattle.std.specs.Prelude.{◌≡◌, ℕ, Bool, ◌<◌, ◌≤◌, [], ◌∷◌, length, take, true, false, Ok, IfOk, OnErr};
 ghost use Rattle.std.specs.Io.KnownBytes.{Consumes, IsAtEnd, Keeps};
-ghost use Rattle.input.specs.End.{at_end};
+ghost use Rattle.input.specs.End.{none_left, nothing_counted, at_end};
 
 use quantity::limits::BYTES;
 use std::io;
 use std::io::Read;
 
+// What one more read answered.
+pub trait OneMore {
+    ghost ended: { Self → Bool };
+
+    // Whether nothing was left, and the read did not fail.
+    fn ended(self) -> bool
+        ensures { result ≡ ended self };
+}
+
+impl OneMore for io::Result<bool> {
+    ghost ended = { λ after. none_left after };
+
+    fn ended(self) -> bool {
+        matches!(self, Ok(false))
+    }
+}
+
+// A number of bytes, as read gives it in C: any other number than 0 is no end.
+impl OneMore for isize {
+    ghost ended = { λ after. nothing_counted after };
+
+    fn ended(self) -> bool {
+        self == 0
+    }
+}
+
 // Whether the sheet was read to its end: `got` bytes, and then one more read, which answered `after`.
-pub fn at_end(got: usize, after: io::Result<bool>) -> bool
-    ensures { result ≡ at_end got after }
+pub fn at_end<A: OneMore>(got: usize, after: A) -> bool
+    ensures { result ≡ at_end got (A.ended after) }
 {
-    BYTES < got || matches!(after, Ok(false))
+    let ended = after.ended();
+    BYTES < got || ended
 }
 
 // Reads until the buffer is full or the input ends, and gives how many bytes stand at the buffer's start: fewer than it has room for only at

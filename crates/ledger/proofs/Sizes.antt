@@ -48,7 +48,7 @@ mag_le : (z : ℤ) → mag z ≤ nat_abs z
 mag_le (pos n) = le_refl n
 mag_le (negsuc n) = omega arith
 
-sfits : {z : ℤ} → nat_abs z ≤ 9223372036854775807 → SFits w64 z
+pub sfits : {z : ℤ} → nat_abs z ≤ 9223372036854775807 → SFits w64 z
 sfits {z} h = record { sfits = lt_of_le_of_lt (le_trans (mag_le z) h) (let p : 9223372036854775807 < 2 ^ 63 = omega arith in p) }
 
 -- a number that fits is read back from its bits

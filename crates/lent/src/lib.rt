@@ -35,7 +35,7 @@ pub fn field_count(letter: u64) -> usize
 
 // A lent word as the word of a field that was read.
 #[tactic(auto, unfolding(lines::specs::Words::word))]
-fn lent_word(lent: u64) -> u64
+pub fn lent_word(lent: u64) -> u64
     ensures { result ≡ word (field_lent lent) }
 {
     match lent {

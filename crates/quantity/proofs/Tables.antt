@@ -28,7 +28,7 @@ abbrev pub largest : List ℕ → ℕ
 largest [] = 0
 largest (x ∷ xs) = max x (largest xs)
 
-at_most_largest : (l : List ℕ) (k : ℕ) → get_or l k 0 ≤ largest l
+pub at_most_largest : (l : List ℕ) (k : ℕ) → get_or l k 0 ≤ largest l
 at_most_largest [] k = omega arith
 at_most_largest (x ∷ xs) zero = omega arith
 at_most_largest (x ∷ xs) (suc k) = omega (arith, at_most_largest xs k)

@@ -1,9 +1,13 @@
 // Document 01, "Attribution", "Goods and precursors" and the figures of "The report", and document 02, ticket 4: a sheet's bytes to its reckoning.
 #![tactic(auto)]
 
-ghost use Rattle.std.specs.Prelude.{pos, ◌+ℤ◌, ◌≡◌, IfOk};
+ghost use Rattle.std.specs.Prelude.{pos, ◌+ℤ◌, ◌≡◌, ◌≤◌, length, IfOk, MatchResult};
+ghost use Rattle.quantity.specs.Limits.{limits};
+ghost use Rattle.sheet.specs.Verdict.{first_of};
+ghost use Rattle.checks.specs.Numbers.{refused_by};
+ghost use Rattle.attribution.specs.Verdict.{reckoner_checks};
 ghost use Rattle.closing.specs.Closing.{Ready};
-ghost use Rattle.reckoner.specs.Reckoned.{Reckoned};
+ghost use Rattle.reckoner.specs.Reckoned.{Figured, Reckoned};
 ghost use Rattle.reckoner.specs.Closed.{ClosedAs};
 
 use checks::refusals::{Refusal, Refused};
@@ -15,8 +19,9 @@ use reading::read_lines;
 use reckoning::Reckoning;
 use works::Works;
 
-// The figures of a works whose lines are all noted. Neither this function nor `reckon` is inlined: the compiler sets the large locals of a
-// function to zero where it starts, and hands large results of inlined functions on part by part.
+// The figures of a works whose lines are all noted. None of these functions is inlined into the one above it: the compiler sets the large locals
+// of a function to zero where it starts, also for a sheet that is refused before they are needed, and hands large results of inlined functions
+// on part by part.
 #[inline(never)]
 fn put_figures(r: &mut Reckoning, works: &Works, kilos: &KilosByPair)
     requires { Ready works.now.ledger works.now.noted.outputs.0 kilos.now works.now.noted.count }
@@ -32,9 +37,25 @@ fn put_figures(r: &mut Reckoning, works: &Works, kilos: &KilosByPair)
     };
 }
 
-// The reckoning of a sheet.
-#[tactic(auto, using(crate::proofs::Answer::refused_bytes, crate::proofs::Answer::refused_empty, crate::proofs::Answer::not_large))]
+// The reckoning of a sheet that has lines, and not too many bytes.
+#[tactic(auto, using(crate::proofs::Answer::not_large))]
 #[inline(never)]
+fn put_reckoning(r: &mut Reckoning, sheet: &[u8]) -> Result<(), Refused>
+    requires { (length sheet.now ≤ limits.bytes) × (1 ≤ length sheet.now) }
+    ensures reckoned { MatchResult result (λ _. Figured sheet.now r.new) (λ e. first_of (reckoner_checks limits sheet.now) ≡ refused_by e) }
+    ensures sum { IfOk result (λ _. pos r.new.figures.left.0 ≡ r.new.entered.0 +ℤ pos r.new.figures.total_raised.0 +ℤ pos r.new.uncredited.0) }
+{
+    let mut kilos: KilosByPair = [0; PAIRS];
+    let works = read_lines(sheet, &mut kilos)?;
+    put_figures(r, &works, &kilos);
+    if is_large(r) {
+        return Err(Refused::from(Refusal::FigureTooLarge));
+    }
+    Ok(())
+}
+
+// The reckoning of a sheet.
+#[tactic(auto, using(crate::proofs::Answer::refused_bytes, crate::proofs::Answer::refused_empty))]
 pub fn reckon(s: &[u8]) -> Result<Reckoning, Refused>
     ensures reckoned { Reckoned s.now result }
     ensures sum { IfOk result (λ r. pos r.figures.left.0 ≡ r.entered.0 +ℤ pos r.figures.total_raised.0 +ℤ pos r.uncredited.0) }
@@ -45,12 +66,7 @@ pub fn reckon(s: &[u8]) -> Result<Reckoning, Refused>
     if s.is_empty() {
         return Err(Refused::from(Refusal::EmptySheet));
     }
-    let mut kilos: KilosByPair = [0; PAIRS];
-    let works = read_lines(s, &mut kilos)?;
     let mut r = Reckoning::default();
-    put_figures(&mut r, &works, &kilos);
-    if is_large(&r) {
-        return Err(Refused::from(Refusal::FigureTooLarge));
-    }
+    put_reckoning(&mut r, s)?;
     Ok(r)
 }

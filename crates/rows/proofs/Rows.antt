@@ -58,7 +58,7 @@ pub rows_none : (r : Reckoning) → rows_bytes r 0 ≡ []
 unfolding rows_bytes rows_held spell_lines
 rows_none r = refl
 
-rows_more : (r : Reckoning) (k : ℕ) → rows_bytes r (k + 1) ≡ rows_bytes r k ++ line 82 (row_fields r (k + 1))
+pub rows_more : (r : Reckoning) (k : ℕ) → rows_bytes r (k + 1) ≡ rows_bytes r k ++ line 82 (row_fields r (k + 1))
 unfolding rows_bytes rows_held
 rows_more r k =
     rw (
@@ -77,7 +77,7 @@ report_parts r =
 
 -- ---- how long
 
-rows_long : (r : Reckoning) (k : ℕ) → length (rows_bytes r (k + 1)) ≡ length (rows_bytes r k) + (length (tailed (row_fields r (k + 1))) + 2)
+pub rows_long : (r : Reckoning) (k : ℕ) → length (rows_bytes r (k + 1)) ≡ length (rows_bytes r k) + (length (tailed (row_fields r (k + 1))) + 2)
 rows_long r k =
     ap length (rows_more r k) ∙ length-append (rows_bytes r k) (line 82 (row_fields r (k + 1)))
     ∙ ap (λ (n : ℕ). length (rows_bytes r k) + n) (length_line 82 (row_fields r (k + 1)))
@@ -88,7 +88,7 @@ report_long r =
     ∙ ap (λ (n : ℕ). length (rows_bytes r r.count) + n) (length_line 84 (total_fields (last_held r)))
 
 -- the lines of the first processes are no longer than those of more
-rows_within : (r : Reckoning) (i n : ℕ) → i ≤ n → length (rows_bytes r i) ≤ length (rows_bytes r n)
+pub rows_within : (r : Reckoning) (i n : ℕ) → i ≤ n → length (rows_bytes r i) ≤ length (rows_bytes r n)
 rows_within r i zero h = let e : i ≡ 0 = omega arith in rw e (omega arith)
 rows_within r i (suc n) h =
     elim (dec_le (suc n) i) [

@@ -43,7 +43,7 @@ module _ {b q r p w : ℕ} (range : PartRange p w) (bit : BitRange b q r p w) wh
   added : b * p ≤ p
   added = omega (arith, mul-le-mul_right p bit.one)
 
-  grown_below : r * 2 + b * p < w * 3
+  pub grown_below : r * 2 + b * p < w * 3
   grown_below = omega (arith, added, range.within, bit.below)
 
   abbrev grown : ℕ
@@ -56,7 +56,7 @@ module _ {b q r p w : ℕ} (range : PartRange p w) (bit : BitRange b q r p w) wh
   parted : wholes * w + grown % w ≡ grown
   parted = rw (wholes_are grown w grown_below) (div-add-mod' grown w)
 
-  taken_off : wholes * w ≤ grown
+  pub taken_off : wholes * w ≤ grown
   taken_off = omega (arith, parted)
 
   pub left_below : grown - wholes * w < w

@@ -95,7 +95,7 @@ module _ (list sheet after : List ℕ) (place at : ℕ) (p : PutTo list sheet af
     pub put_room : place + RECORD ≤ length after
     put_room = omega (arith, words_fit, put_long, p.written.place)
 
-    put_end : l.end < length sheet
+    pub put_end : l.end < length sheet
     put_end = ltb-true l.end (length sheet) (sym (line_ended sheet at l.end p.inside read.end) ∙ here.0.ended)
 
     pub put_next : (longer : List ℕ) (stop : ℕ) → Put after place (line_words l) longer stop → PutTo list sheet longer stop (l.end + 1)
