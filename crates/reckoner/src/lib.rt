@@ -19,9 +19,9 @@ use reading::read_lines;
 use reckoning::Reckoning;
 use works::Works;
 
-// The figures of a works whose lines are all noted. None of these functions is inlined into the one above it: the compiler sets the large locals
-// of a function to zero where it starts, also for a sheet that is refused before they are needed, and hands large results of inlined functions
-// on part by part.
+// The figures of a works whose lines are all noted. Neither this function nor `put_reckoning` is inlined: the compiler sets the large locals of a
+// function to zero where it starts, also for a sheet that is refused before they are needed, and hands large results of inlined functions on
+// part by part.
 #[inline(never)]
 fn put_figures(r: &mut Reckoning, works: &Works, kilos: &KilosByPair)
     requires { Ready works.now.ledger works.now.noted.outputs.0 kilos.now works.now.noted.count }
