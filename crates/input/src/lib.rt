@@ -22,7 +22,10 @@ impl OneMore for io::Result<bool> {
     ghost ended = { λ after. none_left after };
 
     fn ended(self) -> bool {
-        matches!(self, Ok(false))
+        match self {
+            Ok(more) => !more,
+            Err(_) => false,
+        }
     }
 }
 
